@@ -1,0 +1,5 @@
+pub mod Order
+pub mod Tests
+pub mod Searches
+pub mod Scale
+pub mod Fits

@@ -1,0 +1,36 @@
+-- Document 01, "Numbers for what can't be judged": the number and the place of each refusal.
+-- Assumes nothing.
+use Prim.Native.Nat.{ℕ}
+use mathlib.Core.Path.{_≡_}
+use mathlib.Core.Bool.{Bool, true, false}
+use Rattle.basis.specs.declared.Refusal.{Refusal}
+use Rattle.basis.specs.declared.Refusal.the-variants.{Nothing, SheetLength, SheetEntry, FieldRange, Contradiction, Wall, Damaged, Trailing, TooShort}
+
+-- the number that the paper gives a refusal; 0 where nothing is refused
+unfoldable pub number : Refusal → ℕ
+number Nothing = 0
+number (SheetLength n) = 1
+number (SheetEntry k) = 2
+number (FieldRange field) = 3
+number (Contradiction field) = 4
+number (Wall field) = 5
+number (Damaged offset) = 6
+number (Trailing offset) = 7
+number (TooShort needed) = 8
+
+-- its place
+unfoldable pub place : Refusal → ℕ
+place Nothing = 0
+place (SheetLength n) = n
+place (SheetEntry k) = k
+place (FieldRange field) = field
+place (Contradiction field) = field
+place (Wall field) = field
+place (Damaged offset) = offset
+place (Trailing offset) = offset
+place (TooShort needed) = needed
+
+-- the rest where the test passes, else this refusal
+abbrev pub unless : Bool → Refusal → Refusal → Refusal
+unless true refusal rest = rest
+unless false refusal rest = refusal

@@ -1,0 +1,4 @@
+pub mod Job
+pub mod Ranges
+pub mod Examine
+pub mod Bounds

@@ -1,0 +1,86 @@
+// The column sheet: what about it is refused (refusals 1 and 2), and the stability factor read from it.
+ghost use mathlib.Core.Path.{_≡_};
+ghost use Prim.Native.Nat.{_≤_, _<_, _-_};
+ghost use mathlib.Core.Bool.{Bool, not};
+ghost use lib.ListN.{length, getD};
+ghost use Rattle.basis.specs.Choice.{both, either, within};
+ghost use Rattle.basis.specs.Search.{firstFail};
+ghost use Rattle.sheet.specs.Sheet.{stands, entryStands, examination, Stands};
+ghost use Rattle.sheet.specs.Factor.{Reading};
+use basis::Refusal;
+use basis::both_of;
+use basis::either_of;
+use basis::refuse_unless;
+use basis::within_of;
+
+fn wide(x: u16) -> u32
+    ensures { λ r. ⌜ r ≡ x ⌝ }
+{
+    x as u32
+}
+
+// The entry e at place k, after the entry d, stands.
+fn stands_after(e: u32, d: u32, k: usize) -> bool
+    ensures { λ r. ⌜ r ≡ stands e d k ⌝ }
+{
+    both_of(
+        within_of(1, 1000, e),
+        both_of(either_of(k == 0, e <= d), either_of(k != 250, 117 <= e)),
+    )
+}
+
+// The first entry that does not stand, 251 where each does.
+fn first_fault(sheet: &[u16]) -> usize
+    requires { ⌜ length (now sheet) ≡ 251 ⌝ }
+    ensures { λ r. ⌜ r ≡ firstFail (entryStands (now (sheet .entry))) 0 251 ⌝ }
+{
+    let mut k: usize = 0;
+    let mut before: u32 = 1000;
+    while k < 251 {
+        let e = wide(sheet[k]);
+        if !stands_after(e, before, k) {
+            return k;
+        }
+        before = e;
+        k += 1;
+    }
+    k
+}
+
+// What is refused of a sheet: its length, then its first entry that does not stand.
+pub fn examine(sheet: &[u16]) -> Refusal
+    ensures { λ r. ⌜ r ≡ examination (now (sheet .entry)) ⌝ }
+{
+    let n = sheet.len();
+    if n != 251 {
+        return Refusal::SheetLength(n as u64);
+    }
+    let k = first_fault(sheet);
+    refuse_unless(k == 251, Refusal::SheetEntry(k as u64), Refusal::Nothing)
+}
+
+// A stability factor, over / under.
+pub struct Factor {
+    pub over: u64,
+    pub under: u64,
+}
+
+// The stability factor of a sheet at the slenderness z.
+// requires: judge shows that the sheet stands and that no accepted job is more slender.
+pub fn stability_factor(sheet: &[u16], z: u64) -> Factor
+    requires { ⌜ Stands (now sheet) × (z ≤ 293) ⌝ }
+    ensures { λ r. ⌜ Reading r (now (sheet .entry)) z ⌝ }
+{
+    if z <= 250 {
+        let at = z as usize;
+        let e = wide(sheet[at]);
+        return Factor {
+            over: e as u64,
+            under: 1000,
+        };
+    }
+    Factor {
+        over: 7320,
+        under: z * z,
+    }
+}
