@@ -6,9 +6,10 @@ use mathlib.Core.Logic.{_⊎_, inl, inr, _↔_}
 use Prim.Native.Nat.{ℕ, zero, suc, _+_, _-_, _≤_, _<_}
 use native.Mathlib.Nat.{le-refl, eq-or-lt-of-le, add-zero, zero-add}
 use native.Mathlib.Omega.{arith}
-use lib.Dec.{T, eqb, eqb→eq}
+use lib.Dec.{T, ltb, eqb, eqb→eq}
+use borrow.Author.Tests.{ltb-true, ltb-false}
 use Rattle.basis.specs.Search.{firstFail, every, top}
-use Rattle.basis.proofs.Tests.{Keeps, holds}
+use Rattle.basis.proofs.Tests.{Keeps, holds, cases}
 
 firstFail-pass : (p : ℕ → Bool) (i n : ℕ) → p i ≡ true → firstFail p i (suc n) ≡ firstFail p (suc i) n
 unfolding firstFail
@@ -17,6 +18,20 @@ firstFail-pass p i n e = rw (e, firstFail) refl
 firstFail-stop : (p : ℕ → Bool) (i n : ℕ) → p i ≡ false → firstFail p i (suc n) ≡ i
 unfolding firstFail
 firstFail-stop p i n e = rw (e, firstFail) refl
+
+-- one step of a scan from below, at i of n
+pub firstFail-found : (p : ℕ → Bool) (n i : ℕ) → i < n → p i ≡ false → firstFail p i (n - i) ≡ i
+firstFail-found p n i l e = let q : n - i ≡ suc (n - (i + 1)) = omega arith in rw q (firstFail-stop p i (n - (i + 1)) e)
+
+pub firstFail-next : (p : ℕ → Bool) (n i : ℕ) → i < n → p i ≡ true → firstFail p i (n - i) ≡ firstFail p (i + 1) (n - (i + 1))
+firstFail-next p n i l e =
+    let q : n - i ≡ suc (n - (i + 1)) = omega arith in
+    let r : suc i ≡ i + 1 = omega arith in
+    rw q (rw r at (firstFail-pass p i (n - (i + 1)) e))
+
+pub firstFail-end : (p : ℕ → Bool) (n i : ℕ) → n ≤ i → firstFail p i (n - i) ≡ i
+unfolding firstFail
+firstFail-end p n i l = let q : n - i ≡ 0 = omega arith in rw q refl
 
 -- where no test fails, every one passes
 pub firstFail-all : (p : ℕ → Bool) (n i : ℕ) → firstFail p i n ≡ i + n → (k : ℕ) → k < n → T (p (i + k))
@@ -83,3 +98,13 @@ top-exact p down (suc n) i l = go (p n) refl (top-exact p down n i)
 pub every-at : (p : ℕ → Bool) (n : ℕ) → T (every p n) → (k : ℕ) → k < n → T (p k)
 unfolding every
 every-at = firstFail-none
+
+-- where a test passes exactly below m, m is its top
+pub top-is : (p : ℕ → Bool) (n m : ℕ) → m ≤ n → ((i : ℕ) → i < n → T (p i) ↔ (i < m)) → top p n ≡ m
+unfolding top
+top-is p zero m l e = omega arith
+top-is p (suc n) m l e = go (p n) refl (e n (omega arith)) (λ k. top-is p n m k (λ i u. e i (omega arith)))
+  where
+    go : (b : Bool) → p n ≡ b → T (p n) ↔ (n < m) → (m ≤ n → top p n ≡ m) → top p (suc n) ≡ m
+    go true f q ih = rw (top-pass p n f) (let u = q .0 (holds f) in omega arith)
+    go false f q ih = rw (top-stop p n f) (ih (cases (ltb n m) (λ t. absurd (rw f at (q .1 (ltb-true n m t)))) (ltb-false n m)))

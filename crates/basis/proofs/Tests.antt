@@ -40,6 +40,11 @@ unfolding both
 both-right true b t = t
 both-right false b t = absurd t
 
+pub both-make : (a b : Bool) → T a → T b → T (both a b)
+unfolding both
+both-make true b s t = t
+both-make false b s t = s
+
 -- p passes wherever q does
 pub record Keeps (p q : Bool) : Type 0 where
   pub keep : T q → T p

@@ -1,13 +1,14 @@
 -- Document 01, "Numbers for what can't be judged": the number and the place of each refusal.
 -- Assumes nothing.
 use Prim.Native.Nat.{ℕ}
-use mathlib.Core.Path.{_≡_}
 use mathlib.Core.Bool.{Bool, true, false}
+use lib.Dec.{eqb}
+use Rattle.basis.specs.Choice.{pick}
 use Rattle.basis.specs.declared.Refusal.{Refusal}
 use Rattle.basis.specs.declared.Refusal.the-variants.{Nothing, SheetLength, SheetEntry, FieldRange, Contradiction, Wall, Damaged, Trailing, TooShort}
 
 -- the number that the paper gives a refusal; 0 where nothing is refused
-unfoldable pub number : Refusal → ℕ
+abbrev pub number : Refusal → ℕ
 number Nothing = 0
 number (SheetLength n) = 1
 number (SheetEntry k) = 2
@@ -19,7 +20,7 @@ number (Trailing offset) = 7
 number (TooShort needed) = 8
 
 -- its place
-unfoldable pub place : Refusal → ℕ
+abbrev pub place : Refusal → ℕ
 place Nothing = 0
 place (SheetLength n) = n
 place (SheetEntry k) = k
@@ -34,3 +35,7 @@ place (TooShort needed) = needed
 abbrev pub unless : Bool → Refusal → Refusal → Refusal
 unless true refusal rest = rest
 unless false refusal rest = refusal
+
+-- the first refusal of two
+unfoldable pub first : Refusal → Refusal → Refusal
+first refusal rest = pick (eqb (number refusal) 0) rest refusal

@@ -4,7 +4,7 @@ ghost use Prim.Native.Nat.{_+_, _<_, _≤_, min, max};
 ghost use Rattle.basis.specs.Choice.{pick, both, either, within};
 ghost use Rattle.basis.specs.Fraction.{ceil};
 ghost use Rattle.basis.specs.Figure.{Is};
-ghost use Rattle.basis.specs.Refusal.{unless};
+ghost use Rattle.basis.specs.Refusal.{number, place, unless, first};
 
 // Why nothing is judged, with its place; the number of each case is in specs/Refusal.antt.
 pub enum Refusal {
@@ -30,6 +30,51 @@ pub fn refuse_unless(stands: bool, refusal: Refusal, rest: Refusal) -> Refusal
     ensures { λ r. ⌜ r ≡ unless stands refusal rest ⌝ }
 {
     if stands { rest } else { refusal }
+}
+
+// The paper's number of a refusal, 0 where nothing is refused.
+pub fn number_of(refusal: Refusal) -> u64
+    ensures { λ r. ⌜ r ≡ number refusal ⌝ }
+{
+    match refusal {
+        Refusal::Nothing => 0,
+        Refusal::SheetLength(_) => 1,
+        Refusal::SheetEntry(_) => 2,
+        Refusal::FieldRange(_) => 3,
+        Refusal::Contradiction(_) => 4,
+        Refusal::Wall(_) => 5,
+        Refusal::Damaged(_) => 6,
+        Refusal::Trailing(_) => 7,
+        Refusal::TooShort(_) => 8,
+    }
+}
+
+// Its place.
+pub fn place_of(refusal: Refusal) -> u64
+    ensures { λ r. ⌜ r ≡ place refusal ⌝ }
+{
+    match refusal {
+        Refusal::Nothing => 0,
+        Refusal::SheetLength(n) => n,
+        Refusal::SheetEntry(k) => k,
+        Refusal::FieldRange(field) => field,
+        Refusal::Contradiction(field) => field,
+        Refusal::Wall(field) => field,
+        Refusal::Damaged(offset) => offset,
+        Refusal::Trailing(offset) => offset,
+        Refusal::TooShort(needed) => needed,
+    }
+}
+
+// The first refusal of two.
+pub fn first_of(refusal: Refusal, rest: Refusal) -> Refusal
+    ensures { λ r. ⌜ r ≡ first refusal rest ⌝ }
+{
+    if number_of(refusal) == 0 {
+        rest
+    } else {
+        refusal
+    }
 }
 
 // a where the test passes, else b.

@@ -1,6 +1,6 @@
 -- What the ranges of an accepted job bound: what figures need to fit 64 bits.
 -- Assumes nothing.
-use Prim.Native.Nat.{ℕ, _≤_, _<_}
+use Prim.Native.Nat.{_≤_, _<_}
 use Rattle.job.specs.declared.Job.{Job}
 
 pub record Bounds (j : Job) : Type 0 where

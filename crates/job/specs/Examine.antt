@@ -1,7 +1,6 @@
 -- Refusals 3, 4 and 5: a field outside its range, two fields that contradict each other, a wall unfit for a single row.
 -- Assumes nothing.
 use mathlib.Core.Path.{_≡_}
-use mathlib.Core.Bool.{Bool, true, false}
 use lib.Dec.{leb, ltb, eqb}
 use Rattle.basis.specs.Choice.{either}
 use Rattle.basis.specs.Refusal.{unless}

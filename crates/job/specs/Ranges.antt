@@ -7,7 +7,7 @@ use Rattle.basis.specs.Choice.{pick, either, within}
 use Rattle.job.specs.declared.Job.{Job}
 
 -- the rest where the field stands, else its place
-abbrev pub field : ℕ → Bool → ℕ → ℕ
+unfoldable pub field : ℕ → Bool → ℕ → ℕ
 field place true rest = rest
 field place false rest = place
 

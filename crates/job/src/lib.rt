@@ -1,11 +1,10 @@
 // A scaffold job: its 25 numbers by name, and what about them is refused (refusals 3, 4 and 5).
 ghost use mathlib.Core.Path.{_≡_};
+ghost use Rattle.basis.specs.Choice.{within};
 ghost use Rattle.job.specs.Ranges.{field, lbStands, heightStands, shieldStands, geometry, loads, wind, ground, outside};
 ghost use Rattle.job.specs.Job.{jobOf, numbers};
 ghost use Rattle.job.specs.Examine.{examination};
 use basis::Refusal;
-use basis::both_of;
-use basis::choose;
 use basis::either_of;
 use basis::refuse_unless;
 use basis::within_of;
@@ -137,6 +136,13 @@ fn field_of(place: u64, stands: bool, rest: u64) -> u64
     if stands { rest } else { place }
 }
 
+// The same for a field that is to be from low to high.
+fn range_of(place: u64, low: u32, high: u32, x: u32, rest: u64) -> u64
+    ensures { λ r. ⌜ r ≡ field place (within low high x) rest ⌝ }
+{
+    field_of(place, within_of(low, high, x), rest)
+}
+
 // Field 3: the spacing of a double row is one of three.
 fn lb_stands(family: u32, lb: u32) -> bool
     ensures { λ r. ⌜ r ≡ lbStands family lb ⌝ }
@@ -177,45 +183,45 @@ fn geometry_of(j: Job, rest: u64) -> u64
     ensures { λ r. ⌜ r ≡ geometry j rest ⌝ }
 {
     let p7 = field_of(7, height_stands(j.family, j.height), rest);
-    let p6 = field_of(6, within_of(2, 3, j.ties), p7);
-    let p5 = field_of(5, within_of(60, 200, j.step), p6);
-    let p4 = field_of(4, within_of(60, 200, j.la), p5);
+    let p6 = range_of(6, 2, 3, j.ties, p7);
+    let p5 = range_of(5, 60, 200, j.step, p6);
+    let p4 = range_of(4, 60, 200, j.la, p5);
     let p3 = field_of(3, lb_stands(j.family, j.lb), p4);
-    let p2 = field_of(2, within_of(1, 2, j.tube), p3);
-    field_of(1, within_of(1, 2, j.family), p2)
+    let p2 = range_of(2, 1, 2, j.tube, p3);
+    range_of(1, 1, 2, j.family, p2)
 }
 
 fn loads_of(j: Job, rest: u64) -> u64
     ensures { λ r. ⌜ r ≡ loads j rest ⌝ }
 {
-    let p14 = field_of(14, within_of(50, 500, j.weight), rest);
-    let p13 = field_of(13, within_of(0, 5000, j.nets), p14);
-    let p12 = field_of(12, within_of(0, 30000, j.total), p13);
-    let p11 = field_of(11, within_of(0, 10000, j.live), p12);
-    let p10 = field_of(10, within_of(1, 9, j.working), p11);
-    let p9 = field_of(9, within_of(1, 10, j.boarded), p10);
-    field_of(8, within_of(1, 3, j.boards), p9)
+    let p14 = range_of(14, 50, 500, j.weight, rest);
+    let p13 = range_of(13, 0, 5000, j.nets, p14);
+    let p12 = range_of(12, 0, 30000, j.total, p13);
+    let p11 = range_of(11, 0, 10000, j.live, p12);
+    let p10 = range_of(10, 1, 9, j.working, p11);
+    let p9 = range_of(9, 1, 10, j.boarded, p10);
+    range_of(8, 1, 3, j.boards, p9)
 }
 
 fn wind_of(j: Job, rest: u64) -> u64
     ensures { λ r. ⌜ r ≡ wind j rest ⌝ }
 {
-    let p19 = field_of(19, within_of(1, 2, j.wall), rest);
+    let p19 = range_of(19, 1, 2, j.wall, rest);
     let p18 = field_of(18, shield_stands(j.enclosure, j.shield), p19);
-    let p17 = field_of(17, within_of(1, 3, j.enclosure), p18);
-    let p16 = field_of(16, within_of(100, 4000, j.exposure), p17);
-    field_of(15, within_of(0, 2000, j.wind), p16)
+    let p17 = range_of(17, 1, 3, j.enclosure, p18);
+    let p16 = range_of(16, 100, 4000, j.exposure, p17);
+    range_of(15, 0, 2000, j.wind, p16)
 }
 
 fn ground_of(j: Job, rest: u64) -> u64
     ensures { λ r. ⌜ r ≡ ground j rest ⌝ }
 {
-    let p25 = field_of(25, within_of(100, 10000, j.pad), rest);
-    let p24 = field_of(24, within_of(10, 2000, j.strength), p25);
-    let p23 = field_of(23, within_of(1, 5, j.soil), p24);
-    let p22 = field_of(22, within_of(8000, 100000, j.capacity), p23);
-    let p21 = field_of(21, within_of(1, 3, j.make), p22);
-    field_of(20, within_of(0, 2000, j.thickness), p21)
+    let p25 = range_of(25, 100, 10000, j.pad, rest);
+    let p24 = range_of(24, 10, 2000, j.strength, p25);
+    let p23 = range_of(23, 1, 5, j.soil, p24);
+    let p22 = range_of(22, 8000, 100000, j.capacity, p23);
+    let p21 = range_of(21, 1, 3, j.make, p22);
+    range_of(20, 0, 2000, j.thickness, p21)
 }
 
 // The lowest field outside its range, 0 where there is none.
@@ -231,16 +237,10 @@ pub fn examine(j: Job) -> Refusal
 {
     let family = j.family;
     let field = outside_of(j);
-    let make = refuse_unless(
-        either_of(family == 1, j.make == 1),
-        Refusal::Wall(21),
-        Refusal::Nothing,
-    );
-    let thickness = refuse_unless(
-        either_of(family == 1, 180 < j.thickness),
-        Refusal::Wall(20),
-        make,
-    );
+    let thick = either_of(family == 1, 180 < j.thickness);
+    let sound = either_of(family == 1, j.make == 1);
+    let make = refuse_unless(sound, Refusal::Wall(21), Refusal::Nothing);
+    let thickness = refuse_unless(thick, Refusal::Wall(20), make);
     let live = refuse_unless(j.live <= j.total, Refusal::Contradiction(12), thickness);
     let working = refuse_unless(j.working <= j.boarded, Refusal::Contradiction(10), live);
     refuse_unless(field == 0, Refusal::FieldRange(field), working)

@@ -1,9 +1,7 @@
 // The column sheet: what about it is refused (refusals 1 and 2), and the stability factor read from it.
 ghost use mathlib.Core.Path.{_≡_};
-ghost use Prim.Native.Nat.{_≤_, _<_, _-_};
-ghost use mathlib.Core.Bool.{Bool, not};
-ghost use lib.ListN.{length, getD};
-ghost use Rattle.basis.specs.Choice.{both, either, within};
+ghost use Prim.Native.Nat.{_≤_};
+ghost use lib.ListN.{length};
 ghost use Rattle.basis.specs.Search.{firstFail};
 ghost use Rattle.sheet.specs.Sheet.{stands, entryStands, examination, Stands};
 ghost use Rattle.sheet.specs.Factor.{Reading};
@@ -35,7 +33,8 @@ fn first_fault(sheet: &[u16]) -> usize
     ensures { λ r. ⌜ r ≡ firstFail (entryStands (now (sheet .entry))) 0 251 ⌝ }
 {
     let mut k: usize = 0;
-    let mut before: u32 = 1000;
+    // no entry is before entry 0, and the test asks for none there
+    let mut before = wide(sheet[0]);
     while k < 251 {
         let e = wide(sheet[k]);
         if !stands_after(e, before, k) {

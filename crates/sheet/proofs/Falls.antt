@@ -1,0 +1,89 @@
+-- A sheet of which nothing is refused has 251 entries that fall, from at most 1,000 to at least 117; its stability factor weakens with the slenderness.
+-- Assumes nothing.
+use mathlib.Core.Path.{_≡_, refl}
+use mathlib.Core.Bool.{Bool, true, false, not}
+use mathlib.Core.List.{List}
+use Prim.Native.Nat.{ℕ, zero, suc, _+_, _*_, _-_, _≤_, _<_}
+use native.Mathlib.Nat.{add-zero, add-suc, le-refl, le-trans, mul-le-mul, mul-le-mul-left, mul-le-mul-right, add-sub-of-le}
+use native.Mathlib.Omega.{arith}
+use lib.ListN.{length, getD}
+use lib.Dec.{T, leb, eqb, leb→le, eqb→eq, lit<, lit≤}
+use borrow.Author.Tests.{leb-true, leb-false}
+use Rattle.basis.specs.Choice.{pick, both, either, within}
+use Rattle.basis.proofs.Tests.{both-left, both-right, either-elim, within-le}
+use Rattle.basis.proofs.Searches.{firstFail-none}
+use Rattle.basis.proofs.Refusals.{unless-pass}
+use Rattle.sheet.specs.Sheet.{entryStands, fault, examination, Stands}
+use Rattle.sheet.specs.Factor.{over, under}
+
+module _ (s : List ℕ) (h : Stands s) where
+  tests : T (eqb (length s) 251) × T (eqb (fault s) 251)
+  unfolding Stands examination
+  tests =
+      let one = unless-pass (eqb (length s) 251) _ _ (lit< tt) h in
+      (one .0, unless-pass (eqb (fault s) 251) _ _ (lit< tt) (one .1) .0)
+
+  pub sheet-long : length s ≡ 251
+  sheet-long = eqb→eq (length s) 251 (tests .0)
+
+  entry-stands : (k : ℕ) → k ≤ 250 → T (entryStands s k)
+  unfolding fault
+  entry-stands k l = firstFail-none (entryStands s) 251 (tests .1) k (omega arith)
+
+  entry-within : (k : ℕ) → k ≤ 250 → (1 ≤ getD s k 0) × (getD s k 0 ≤ 1000)
+  unfolding entryStands
+  entry-within k l = within-le 1 1000 (getD s k 0) (both-left (within 1 1000 (getD s k 0)) _ (entry-stands k l))
+
+  pub entry-pos : (k : ℕ) → k ≤ 250 → 0 < getD s k 0
+  entry-pos k l = entry-within k l .0
+
+  pub entry-most : (k : ℕ) → k ≤ 250 → getD s k 0 ≤ 1000
+  entry-most k l = entry-within k l .1
+
+  entry-falling : (k : ℕ) → k ≤ 250 → T (both (either (eqb k 0) (leb (getD s k 0) (getD s (k - 1) 0))) (either (not (eqb k 250)) (leb 117 (getD s k 0))))
+  unfolding entryStands
+  entry-falling k l = both-right (within 1 1000 (getD s k 0)) _ (entry-stands k l)
+
+  pub entry-last : 117 ≤ getD s 250 0
+  unfolding either
+  entry-last = leb→le 117 (getD s 250 0) (both-right (leb (getD s 250 0) (getD s 249 0)) _ (entry-falling 250 (lit≤ tt)))
+
+  entry-next : (k : ℕ) → suc k ≤ 250 → getD s (suc k) 0 ≤ getD s k 0
+  entry-next k l =
+      let e : suc k - 1 ≡ k = omega arith in
+      either-elim (eqb (suc k) 0) (leb (getD s (suc k) 0) (getD s (suc k - 1) 0))
+      (λ t. let z = eqb→eq (suc k) 0 t in absurd (omega arith))
+      (λ t. rw e at (leb→le (getD s (suc k) 0) (getD s (suc k - 1) 0) t))
+      (both-left _ (either (not (eqb (suc k) 250)) (leb 117 (getD s (suc k) 0))) (entry-falling (suc k) l))
+
+  entry-after : (n i : ℕ) → i + n ≤ 250 → getD s (i + n) 0 ≤ getD s i 0
+  entry-after zero i l = rw add-zero (le-refl (getD s i 0))
+  entry-after (suc n) i l = rw add-suc (le-trans (entry-next (i + n) (omega arith)) (entry-after n i (omega arith)))
+
+  pub entry-falls : {i k : ℕ} → i ≤ k → k ≤ 250 → getD s k 0 ≤ getD s i 0
+  entry-falls {i} {k} l m = rw (add-sub-of-le l) at (entry-after (k - i) i (omega (arith, add-sub-of-le l)))
+
+-- o′ / u′ is a factor above 0, and no greater than o / u
+pub record Weaker (o u o′ u′ : ℕ) : Type 0 where
+  pub falls : o′ * u ≤ o * u′
+  pub over : 0 < o′
+  pub under : 0 < u′
+
+-- a greater slenderness has a weaker stability factor
+pub weakens : (s : List ℕ) → Stands s → {z z′ : ℕ} → z ≤ z′ → Weaker (over s z) (under z) (over s z′) (under z′)
+unfolding over under
+weakens s h {z} {z′} l = go (leb z 250) (leb z′ 250) refl refl
+  where
+    go : (p q : Bool) → leb z 250 ≡ p → leb z′ 250 ≡ q → Weaker (pick p (getD s z 0) 7320) (pick p 1000 (z * z)) (pick q (getD s z′ 0) 7320) (pick q 1000 (z′ * z′))
+    go true true p q =
+        let v = leb-true z′ 250 q in
+        record { falls = mul-le-mul-right 1000 (entry-falls s h l v); over = entry-pos s h z′ v; under = lit< tt }
+    go true false p q =
+        let v : 251 ≤ z′ = leb-false z′ 250 q in
+        let w : 251 * 251 ≤ z′ * z′ = mul-le-mul v v in
+        let e : 117 ≤ getD s z 0 = le-trans (entry-last s h) (entry-falls s h (leb-true z 250 p) (lit≤ tt)) in
+        record { falls = le-trans (lit≤ tt) (mul-le-mul e w); over = lit< tt; under = le-trans (lit≤ tt) w }
+    go false true p q = absurd (omega (arith, leb-false z 250 p, leb-true z′ 250 q))
+    go false false p q =
+        let v : 251 ≤ z′ = leb-false z′ 250 q in
+        record { falls = mul-le-mul-left 7320 (mul-le-mul l l); over = lit< tt; under = le-trans {m = 251 * 251} (lit≤ tt) (mul-le-mul v v) }

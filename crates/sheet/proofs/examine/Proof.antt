@@ -1,0 +1,15 @@
+-- `examine` meets its contract. Assumes nothing.
+use borrow.Author.Needs.{needs}
+use borrow.Author.Tests.{eq-eqb, ne-eqb}
+use Rattle.sheet.specs.Sheet.{fault, examination}
+use Rattle.sheet.proofs.examine.Statement.{statement}
+use Rattle.sheet.proofs.examine.Tie as tie
+
+pub examine-spec : {M : Type 1} → statement M
+examine-spec =
+    tie.close
+    (tie.spec
+    (λ c. unfold examination in simp (ne-eqb _ _ (c .if1 .taken)))  -- returns
+    (λ c κs. search needs)  -- first-fault-requires
+    (λ c κs. search needs)  -- refuse-unless-requires
+    (λ c. unfold examination fault in simp (eq-eqb _ _ (c .before .before .if1 .left)) (cc)))  -- returns-2
