@@ -1,0 +1,20 @@
+-- `judge` meets its contract. Assumes nothing.
+use mathlib.Core.Path.{_∙_, sym}
+use borrow.Author.Needs.{needs}
+use Rattle.judge.specs.Answer.{refusal}
+use Rattle.judge.proofs.Ways.{accept, ready, refuse}
+use Rattle.judge.proofs.judge.Statement.{statement}
+use Rattle.judge.proofs.judge.Tie as tie
+
+pub judge-spec : {M : Type 1} → statement M
+judge-spec =
+    tie.close
+    (tie.spec
+    (λ c κs. search needs)  -- examine-requires
+    (λ c κs. search needs)  -- examine-requires-2
+    (λ c κs. search needs)  -- first-of-requires
+    (λ c κs. search needs)  -- number-of-requires
+    (λ c κs. search needs)  -- blank-of-requires
+    (λ c. refuse _ _ (unfold refusal in cc) (λ e. c .before .if1 .taken (c .before .before .number-of .ensures ∙ e)) (c .blank-of .ensures))  -- returns
+    (λ c κs. ready _ _ {r = c .before .before .first-of .result} (unfold refusal in cc) (sym (c .before .number-of .ensures) ∙ c .if1 .left))  -- judgement-of-requires
+    (λ c. accept _ _ (unfold refusal in cc) (sym (c .before .before .number-of .ensures) ∙ c .before .if1 .left) (c .judgement-of .ensures)))  -- returns-2
