@@ -76,19 +76,18 @@ fn verdicts_of(p: Pole, j: Job, w: u64, n: u64, nw: u64, quiet: bool) -> [u8; 11
     requires { ⌜ Small p × Bounds j × Is w (wk j) 17472 × Is n (force p (j .height)) 142000 × (nw ≡ forceWind p (j .height)) × (quiet ≡ calm j) ⌝ }
     ensures { λ r. ⌜ r ≡ verdicts p j ⌝ }
 {
-    [
-        check1_of(j),
-        check2_of(j),
-        check3_of(j),
-        check4_of(j),
-        check5_of(j),
-        check6_of(j),
-        verdict_of(bears_of(p, n)),
-        due_of(quiet, verdict_of(bends_of(p, nw))),
-        check9_of(j, w),
-        check10_of(p, j, n),
-        check11_of(p, j, n),
-    ]
+    let v1 = check1_of(j);
+    let v2 = check2_of(j);
+    let v3 = check3_of(j);
+    let v4 = check4_of(j);
+    let v5 = check5_of(j);
+    let v6 = check6_of(j);
+    let v7 = verdict_of(bears_of(p, n));
+    let v8 = due_of(quiet, verdict_of(bends_of(p, nw)));
+    let v9 = check9_of(j, w);
+    let v10 = check10_of(p, j, n);
+    let v11 = check11_of(p, j, n);
+    [v1, v2, v3, v4, v5, v6, v7, v8, v9, v10, v11]
 }
 
 // The figure of each check, from wk, N and Nw.
