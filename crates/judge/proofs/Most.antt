@@ -96,7 +96,7 @@ module _ {p : Pole} (r : Small p) {H : ℕ} (l : H ≤ 6000) where
   unfolding force ceil
   force-most = ceil-below 200000 (12 * (200 * 500 * 6000 + 280000000) + 14 * 1110000000) tt (search mono depth 12)
 
-  pub forceWind-most : forceWind p H ≤ 120000
+  pub forceWind-most : forceWind p H ≤ 142000
   unfolding forceWind ceil
   forceWind-most = ceil-below 2000000 (120 * (200 * 500 * 6000 + 280000000) + 119 * 1110000000) tt (search mono depth 12)
 

@@ -58,7 +58,7 @@ pub(crate) fn force_of(p: Pole, h: u64) -> u64
 // Nw at the height h.
 pub(crate) fn force_wind_of(p: Pole, h: u64) -> u64
     requires { ⌜ Small p × (h ≤ 6000) ⌝ }
-    ensures { λ r. ⌜ Is r (forceWind p h) 120000 ⌝ }
+    ensures { λ r. ⌜ Is r (forceWind p h) 142000 ⌝ }
 {
     ceil_div(
         120 * (200 * p.weight * h + p.fittings) + 119 * p.live,
