@@ -12,16 +12,18 @@ use Rattle.basis.proofs.Order.{mono}
 use Rattle.basis.proofs.Searches.{top-mono, top-exact}
 use Rattle.job.specs.declared.Job.{Job}
 use Rattle.job.proofs.Bounds.{bounds}
-use Rattle.judge.specs.Section5 as P
-use Rattle.judge.specs.Whole as W
+use Rattle.section5.specs.Section5 as P
+use Rattle.section5.specs.Whole as W
+use Rattle.judge.specs.Whole as A
 use Rattle.judge.specs.Answer.{Accepted, answer}
-use Rattle.judge.specs.Harsher.{Harsher}
-use Rattle.judge.specs.Marked.{sheetT, examined}
+use Rattle.section5.specs.Harsher.{Harsher}
+use Rattle.section5.specs.Marked.{sheetT}
+use Rattle.judge.specs.Marked.{examined}
 use Rattle.judge.specs.Demand3.{rank, UpTo, heightOf, verdictAt, mild, harsh, Demand3}
-use Rattle.judge.proofs.Same.{poles-same, judgement-same}
-use Rattle.judge.proofs.Verdicts.{worse-at}
-use Rattle.judge.proofs.Ways.{sheet-stands, job-stands, judged}
-use Rattle.judge.proofs.Keep.{worse, keep-poles}
+use Rattle.section5.proofs.Same.{poles-same}
+use Rattle.section5.proofs.Verdicts.{worse-at}
+use Rattle.judge.proofs.Ways.{judgement-same, sheet-stands, job-stands, judged}
+use Rattle.section5.proofs.Keep.{worse, keep-poles}
 
 at-most-itself : (x : Ratio) → T (x ≼ x)
 unfolding _≼_
@@ -40,15 +42,15 @@ up-to zero H = (λ u. absurd u, λ l. absurd (omega arith))
 up-to (suc n) H = (λ u. omega arith, λ l. omega arith)
 
 module _ (s : List ℕ) (j : Job) (a : Accepted s j) where
-  whole : (answer s j) .judgement ≡ W.judgement (W.poleOf s j) j
-  whole = judged s j a ∙ judgement-same j s
+  whole : (answer s j) .judgement ≡ A.judgement (W.poleOf s j) j
+  whole = judged s j a ∙ judgement-same s j
 
   verdicts-are : (answer s j) .judgement .verdicts ≡ W.verdicts (W.poleOf s j) j
-  unfolding W.judgement
+  unfolding A.judgement
   verdicts-are = ap (λ r. r .verdicts) whole
 
   height-is : heightOf s j ≡ W.fromCount (W.climb (W.poleOf s j) (W.calm j))
-  unfolding W.judgement
+  unfolding A.judgement
   height-is = ap (λ r. r .stability) whole
 
 no-pass-gained : (s : List ℕ) (j k : Job) → Accepted s j → Accepted s k → Harsher j k → (i : ℕ) → verdictAt s j i ≡ 2 → verdictAt s k i ≡ 2

@@ -1,10 +1,2 @@
-pub mod Heights
-pub mod Same
-pub mod Growth
-pub mod Verdicts
-pub mod LengthFactor
-pub mod Limits
-pub mod Most
 pub mod Ways
-pub mod Keep
 pub mod Demand

@@ -4,7 +4,6 @@ use mathlib.Core.Path.{_≡_, sym, ap, _∙_}
 use mathlib.Core.Bool.{Bool}
 use mathlib.Core.List.{List}
 use Prim.Native.Nat.{ℕ}
-use lib.Dec.{eqb}
 use borrow.Author.Tests.{eq-eqb, ne-eqb}
 use Rattle.basis.specs.Refusal.{number}
 use Rattle.basis.specs.declared.Refusal.{Refusal}
@@ -14,14 +13,19 @@ use Rattle.job.specs.Bounds.{Bounds}
 use Rattle.job.specs.Examine as Job
 use Rattle.job.proofs.Bounds.{bounds}
 use Rattle.sheet.specs.Sheet as Sheet
-use Rattle.judge.specs.declared.Height.{Height}
+use Rattle.section5.specs.declared.heights.Height.{Height}
 use Rattle.judge.specs.declared.Judgement.{Judgement}
-use Rattle.judge.specs.declared.poles.Pole.{Pole}
+use Rattle.section5.specs.declared.poles.Pole.{Pole}
 use Rattle.judge.specs.Answer.{refusal, Accepted, judgement, blank, answer}
-use Rattle.judge.specs.Whole as W
-use Rattle.judge.proofs.Same.{judgement-same}
+use Rattle.section5.specs.Whole as W
+use Rattle.judge.specs.Whole as A
+use Rattle.section5.proofs.Same.{wk-same, Mw-same, Z-same, verdicts-same, figures-same, permitted-same, stability-same}
 
 module _ (s : List ℕ) (j : Job) where
+  pub judgement-same : judgement s j ≡ A.judgement (W.poleOf s j) j
+  unfolding judgement A.judgement
+  judgement-same = rw (verdicts-same j s, figures-same j s, stability-same j s, permitted-same j, wk-same j, Mw-same j, Z-same j)
+
   pub sheet-stands : Accepted s j → Sheet.Stands s
   unfolding Accepted refusal Sheet.Stands
   sheet-stands a = first-nothing (Sheet.examination s) (Job.examination j) a .0
@@ -39,9 +43,9 @@ module _ (s : List ℕ) (j : Job) where
     unfolding answer
     refuse h g = simp (← e, ne-eqb (number r) 0 h, g)
 
-    pub accept : {b : Judgement} → number r ≡ 0 → b ≡ W.judgement (W.poleOf s j) j → record { refusal = r; judgement = b } ≡ answer s j
+    pub accept : {b : Judgement} → number r ≡ 0 → b ≡ A.judgement (W.poleOf s j) j → record { refusal = r; judgement = b } ≡ answer s j
     unfolding answer
-    accept h g = simp (← e, eq-eqb (number r) 0 h, judgement-same j s, g)
+    accept h g = simp (← e, eq-eqb (number r) 0 h, judgement-same, g)
 
     accepted : number r ≡ 0 → Accepted s j
     unfolding Accepted
@@ -51,6 +55,6 @@ module _ (s : List ℕ) (j : Job) where
     ready h = (sheet-stands (accepted h), bounds j (job-stands (accepted h)))
 
   -- the parts of a judgement, as the code works them out
-  pub assembled : {p : Pole} {v f : List ℕ} {h k : Height} {n w m z : ℕ} {calm : Bool} → p ≡ W.poleOf s j → calm ≡ W.calm j → n ≡ W.climb p calm → v ≡ W.verdicts p j → f ≡ W.figures p j → h ≡ W.fromCount n → k ≡ W.permittedOf (j .family) (W.fromCount n) → w ≡ W.wk j → m ≡ W.mw j → z ≡ W.slenderness j → record { verdicts = v; figures = f; stability = h; permitted = k; wk = w; mw = m; z = z } ≡ W.judgement (W.poleOf s j) j
-  unfolding W.judgement
+  pub assembled : {p : Pole} {v f : List ℕ} {h k : Height} {n w m z : ℕ} {calm : Bool} → p ≡ W.poleOf s j → calm ≡ W.calm j → n ≡ W.climb p calm → v ≡ W.verdicts p j → f ≡ W.figures p j → h ≡ W.fromCount n → k ≡ W.permittedOf (j .family) (W.fromCount n) → w ≡ W.wk j → m ≡ W.mw j → z ≡ W.slenderness j → record { verdicts = v; figures = f; stability = h; permitted = k; wk = w; mw = m; z = z } ≡ A.judgement (W.poleOf s j) j
+  unfolding A.judgement
   assembled e q c v f h k w m z = cc

@@ -12,10 +12,10 @@ use Rattle.basis.specs.declared.Refusal.the-variants.{Nothing}
 use Rattle.job.specs.declared.Job.{Job}
 use Rattle.job.specs.Examine as Job
 use Rattle.sheet.specs.Sheet as Sheet
-use Rattle.judge.specs.declared.Height.the-variants.{Nowhere}
+use Rattle.section5.specs.declared.heights.Height.the-variants.{Nowhere}
 use Rattle.judge.specs.declared.Judgement.{Judgement}
 use Rattle.judge.specs.declared.Judged.{Judged}
-use Rattle.judge.specs.Section5.{verdicts, figures, stability, permitted, wk, Mw, Z}
+use Rattle.section5.specs.Section5.{verdicts, figures, stability, permitted, wk, Mw, Z}
 
 -- 1 and 2 of the sheet, then 3, 4 and 5 of the job
 unfoldable pub refusal : List ℕ → Job → Refusal

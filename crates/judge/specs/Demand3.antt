@@ -8,12 +8,12 @@ use lib.ListN.{getD}
 use lib.Dec.{T}
 use Rattle.job.specs.declared.Job.{Job}
 use Rattle.job.specs.Job.{jobOf}
-use Rattle.judge.specs.declared.Height.{Height}
-use Rattle.judge.specs.declared.Height.the-variants.{Nowhere, At}
-use Rattle.judge.specs.Section5.{poles}
+use Rattle.section5.specs.declared.heights.Height.{Height}
+use Rattle.section5.specs.declared.heights.Height.the-variants.{Nowhere, At}
+use Rattle.section5.specs.Section5.{poles}
 use Rattle.judge.specs.Answer.{Accepted, answer}
-use Rattle.judge.specs.Harsher.{Harsher}
-use Rattle.judge.specs.Marked.{sheetT}
+use Rattle.section5.specs.Harsher.{Harsher}
+use Rattle.section5.specs.Marked.{sheetT}
 
 -- heights in order: none counts as below 0
 abbrev pub rank : Height → ℕ

@@ -1,7 +1,4 @@
-pub mod Decimals
-pub mod Section5
-pub mod Whole
 pub mod Answer
-pub mod Harsher
-pub mod Marked
+pub mod Whole
 pub mod Demand3
+pub mod Marked

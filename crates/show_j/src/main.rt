@@ -3,9 +3,9 @@ ghost use mathlib.Core.Path.{_≡_};
 ghost use lib.ListN.{length};
 use basis::Refusal;
 use job::Job;
-use judge::Height;
 use judge::Judgement;
 use libc::STDOUT_FILENO;
+use section5::heights::Height;
 
 fn say(text: &[u8]) {
     io::write_all(STDOUT_FILENO, text);

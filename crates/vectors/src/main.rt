@@ -3,11 +3,13 @@ ghost use mathlib.Core.Path.{_≡_};
 ghost use Prim.Native.Nat.{_<_, _≤_};
 ghost use lib.ListN.{length};
 use basis::Refusal;
+use basis::number_of;
+use basis::place_of;
 use job::Job;
-use judge::Height;
 use judge::Judged;
 use judge::Judgement;
 use libc::STDOUT_FILENO;
+use section5::heights::Height;
 
 fn say(text: &[u8]) {
     io::write_all(STDOUT_FILENO, text);
@@ -74,35 +76,6 @@ fn numbers(record: &[u8]) -> [u32; 25] {
         k += 1;
     }
     n
-}
-
-// The number that the paper gives a refusal, 0 where nothing is refused.
-fn number_of(refusal: Refusal) -> u64 {
-    match refusal {
-        Refusal::Nothing => 0,
-        Refusal::SheetLength(_) => 1,
-        Refusal::SheetEntry(_) => 2,
-        Refusal::FieldRange(_) => 3,
-        Refusal::Contradiction(_) => 4,
-        Refusal::Wall(_) => 5,
-        Refusal::Damaged(_) => 6,
-        Refusal::Trailing(_) => 7,
-        Refusal::TooShort(_) => 8,
-    }
-}
-
-fn place_of(refusal: Refusal) -> u64 {
-    match refusal {
-        Refusal::Nothing => 0,
-        Refusal::SheetLength(n) => n,
-        Refusal::SheetEntry(k) => k,
-        Refusal::FieldRange(field) => field,
-        Refusal::Contradiction(field) => field,
-        Refusal::Wall(field) => field,
-        Refusal::Damaged(offset) => offset,
-        Refusal::Trailing(offset) => offset,
-        Refusal::TooShort(needed) => needed,
-    }
 }
 
 // 1 where there is a height, 0 for "none".

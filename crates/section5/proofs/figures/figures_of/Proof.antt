@@ -1,0 +1,18 @@
+-- `figures_of` meets its contract. Assumes nothing.
+use borrow.Author.Needs.{needs}
+use Rattle.section5.specs.Whole.{figures}
+use Rattle.section5.proofs.figures.figures_of.Statement.{statement}
+use Rattle.section5.proofs.figures.figures_of.Tie as tie
+
+pub figures-of-spec : {M : Type 1} → statement M
+figures-of-spec =
+    tie.close
+    (tie.spec
+    (λ c κs. search needs)  -- transom-moment-requires
+    (λ c κs. search needs)  -- transom-sag-requires
+    (λ c κs. search needs)  -- ledger-moment-requires
+    (λ c κs. search needs)  -- ledger-sag-requires
+    (λ c κs. search needs)  -- slip-of-requires
+    (λ c κs. search needs)  -- slender-of-requires
+    (λ c κs. search needs)  -- tie-force-requires
+    (λ c. unfold figures in cc))  -- returns

@@ -1,0 +1,5 @@
+pub mod Decimals
+pub mod Section5
+pub mod Whole
+pub mod Harsher
+pub mod Marked

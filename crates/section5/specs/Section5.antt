@@ -1,0 +1,324 @@
+-- Document 01, from "Constants" to "Heights", in its order and its symbols: lengths in metres, forces in N, loads in N/m² and N/m.
+-- Assumes nothing.
+use Prim.Native.Nat.{ℕ, zero, suc, min}
+use mathlib.Core.Bool.{Bool, true, false}
+use mathlib.Core.List.{List, [], _∷_}
+use lib.ListN.{getD}
+use lib.Dec.{leb, ltb, eqb}
+use Rattle.basis.specs.Choice.{pick, both, either}
+use Rattle.basis.specs.Fraction.{Ratio, whole, tenths, hundredths, thousandths, _⊕_, _⊗_, _⊘_, _÷_, _², _³, _⁴, _≼_, up, down, fractions}
+use Rattle.job.specs.declared.Job.{Job}
+use Rattle.section5.specs.Decimals.{0·001, 0·175, 0·213, 0·30, 0·7, 1·0, 1·146, 1·155, 1·19, 1·2, 1·3, 1·4, 1·615, 2·15, 2·30}
+use Rattle.section5.specs.declared.heights.Height.{Height}
+use Rattle.section5.specs.declared.heights.Height.the-variants.{Nowhere, At}
+
+-- metres to millimetres; N·m to N·mm
+unfoldable pub mm : Ratio → Ratio
+mm x = whole 1000 ⊗ x
+
+-- a verdict: 1 passes, 2 fails
+abbrev pub verdict : Bool → ℕ
+verdict true = 1
+verdict false = 2
+
+-- the greatest H from 0 to n at which the test passes; none if not even 0 does
+unfoldable pub greatest : (ℕ → Bool) → ℕ → Height
+greatest p zero = elim (p zero) [ true ↦ At zero | false ↦ Nowhere ]
+greatest p (suc n) = elim (p (suc n)) [ true ↦ At (suc n) | false ↦ greatest p n ]
+
+-- ---- Constants: the length factor
+
+-- hundredths, by family, spacing row and tie column
+unfoldable pub factors : List (List (List ℕ))
+factors =
+    ((150 ∷ 170 ∷ []) ∷ (155 ∷ 175 ∷ []) ∷ (160 ∷ 180 ∷ []) ∷ [])
+    ∷ ((180 ∷ 200 ∷ []) ∷ (180 ∷ 200 ∷ []) ∷ (180 ∷ 200 ∷ []) ∷ [])
+    ∷ []
+
+unfoldable pub factorAt : ℕ → ℕ → ℕ → ℕ
+unfolding factors
+factorAt family row column = getD (getD (getD factors family []) row []) column 0
+
+-- double row, single row
+abbrev pub familyPlace : ℕ → ℕ
+familyPlace family = pick (eqb family 1) 0 1
+
+-- a double row's spacing, 105, 130 or 155, is row 0, 1 or 2; a single row has one row
+abbrev pub spacingRow : ℕ → ℕ → ℕ
+spacingRow family lb = pick (eqb family 1) (pick (ltb lb 130) 0 (pick (ltb lb 155) 1 2)) 0
+
+-- t = 2, t = 3
+abbrev pub tieColumn : ℕ → ℕ
+tieColumn ties = pick (ltb ties 3) 0 1
+
+module _ (j : Job) where
+  -- ---- The job
+
+  abbrev pub double : Bool
+  double = eqb (j .family) 1
+
+  abbrev pub tube1 : Bool
+  tube1 = eqb (j .tube) 1
+
+  abbrev pub steel : Bool
+  steel = eqb (j .boards) 1
+
+  abbrev pub isOpen : Bool
+  isOpen = eqb (j .enclosure) 1
+
+  unfoldable pub lb : Ratio
+  lb = hundredths (j .lb)
+
+  unfoldable pub la : Ratio
+  la = hundredths (j .la)
+
+  unfoldable pub h : Ratio
+  h = hundredths (j .step)
+
+  unfoldable pub t : Ratio
+  t = whole (j .ties)
+
+  unfoldable pub layers : Ratio
+  layers = whole (j .boarded)
+
+  unfoldable pub working : Ratio
+  working = whole (j .working)
+
+  unfoldable pub q : Ratio
+  q = whole (j .live)
+
+  unfoldable pub Q : Ratio
+  Q = whole (j .total)
+
+  unfoldable pub S : Ratio
+  S = whole (j .nets)
+
+  unfoldable pub gk : Ratio
+  gk = whole (j .weight)
+
+  unfoldable pub w0 : Ratio
+  w0 = whole (j .wind)
+
+  unfoldable pub exposure : Ratio
+  exposure = thousandths (j .exposure)
+
+  unfoldable pub shield : Ratio
+  shield = thousandths (j .shield)
+
+  unfoldable pub capacity : Ratio
+  capacity = whole (j .capacity)
+
+  -- kPa to N/m², cm² to m²
+  unfoldable pub strength : Ratio
+  strength = whole 1000 ⊗ whole (j .strength)
+
+  unfoldable pub pad : Ratio
+  pad = whole (j .pad) ÷ 10000
+
+  -- ---- Constants
+
+  unfoldable pub A : Ratio
+  A = whole (pick tube1 489 452)
+
+  unfoldable pub W : Ratio
+  W = whole (pick tube1 5080 5130)
+
+  unfoldable pub i : Ratio
+  i = tenths (pick tube1 158 170)
+
+  unfoldable pub I : Ratio
+  I = whole (pick tube1 121900 130800)
+
+  unfoldable pub f : Ratio
+  f = whole 205
+
+  unfoldable pub E : Ratio
+  E = whole 206000
+
+  unfoldable pub g : Ratio
+  g = whole (pick steel 300 350)
+
+  unfoldable pub rail : Ratio
+  rail = whole (pick steel 110 140)
+
+  unfoldable pub factor : Ratio
+  factor = hundredths (factorAt (familyPlace (j .family)) (spacingRow (j .family) (j .lb)) (tieColumn (j .ties)))
+
+  unfoldable pub soilFactor : Ratio
+  soilFactor = tenths (pick (ltb (j .soil) 4) 4 (pick (eqb (j .soil) 4) 5 10))
+
+  -- ---- Figures
+
+  unfoldable pub shape : Ratio
+  shape = pick isOpen shield (1·2 ⊗ shield ⊗ pick (eqb (j .wall) 1) 1·0 1·3)
+
+  unfoldable pub wk : ℕ
+  wk = up (0·7 ⊗ exposure ⊗ shape ⊗ w0)
+
+  unfoldable pub b : Ratio
+  b = pick double (lb ⊕ 0·30) lb
+
+  unfoldable pub G2 : Ratio
+  G2 = layers ⊗ g ⊗ la ⊗ b ÷ 2 ⊕ working ⊗ rail ⊗ la ⊕ S
+
+  unfoldable pub L : Ratio
+  L = Q ⊗ la ⊗ b ÷ 2
+
+  unfoldable pub G1 : ℕ → Ratio
+  G1 H = gk ⊗ hundredths H
+
+  unfoldable pub N : ℕ → ℕ
+  N H = up (1·2 ⊗ (G1 H ⊕ G2) ⊕ 1·4 ⊗ L)
+
+  unfoldable pub Nw : ℕ → ℕ
+  Nw H = up (1·2 ⊗ (G1 H ⊕ G2) ⊕ 1·19 ⊗ L)
+
+  unfoldable pub Mw : ℕ
+  Mw = up (mm (1·19 ⊗ whole wk ⊗ la ⊗ h ² ÷ 10))
+
+  unfoldable pub Z : ℕ
+  Z = up (1·155 ⊗ factor ⊗ mm h ⊘ i)
+
+  unfoldable pub φ : List ℕ → Ratio
+  φ sheet = pick (leb Z 250) (thousandths (getD sheet Z 0)) (whole 7320 ⊘ whole Z ²)
+
+  unfoldable pub Fg : Ratio
+  Fg = 1·2 ⊗ g ⊗ (la ÷ 2) ⊗ (lb ÷ 2)
+
+  unfoldable pub Fq : Ratio
+  Fq = 1·4 ⊗ q ⊗ (la ÷ 2) ⊗ (lb ÷ 2)
+
+  unfoldable pub Pg : Ratio
+  Pg = g ⊗ (la ÷ 2) ⊗ (lb ÷ 2)
+
+  unfoldable pub Pq : Ratio
+  Pq = q ⊗ (la ÷ 2) ⊗ (lb ÷ 2)
+
+  -- ---- Eleven checks
+
+  -- 1 transom moment
+  unfoldable pub moment1 : ℕ
+  moment1 = up (mm ((1·2 ⊗ g ⊕ 1·4 ⊗ q) ⊗ (la ÷ 2) ⊗ lb ² ÷ 8))
+
+  unfoldable pub check1 : Bool
+  check1 = whole moment1 ≼ f ⊗ W
+
+  -- 2 transom deflection, mm
+  unfoldable pub deflection2 : Ratio
+  deflection2 = whole 5 ⊗ ((g ⊕ q) ⊗ (la ÷ 2) ÷ 1000) ⊗ mm lb ⁴ ⊘ (whole 384 ⊗ E ⊗ I)
+
+  unfoldable pub check2 : Bool
+  check2 = both (deflection2 ≼ mm lb ÷ 150) (deflection2 ≼ whole 10)
+
+  -- 3 ledger moment
+  unfoldable pub moment3 : ℕ
+  moment3 = up (mm ((0·175 ⊗ Fg ⊕ 0·213 ⊗ Fq) ⊗ la))
+
+  unfoldable pub check3 : Bool
+  check3 = whole moment3 ≼ f ⊗ W
+
+  -- 4 ledger deflection, mm
+  unfoldable pub deflection4 : Ratio
+  deflection4 = (1·146 ⊗ Pg ⊕ 1·615 ⊗ Pq) ⊗ mm la ³ ⊘ (whole 100 ⊗ E ⊗ I)
+
+  unfoldable pub check4 : Bool
+  check4 = both (deflection4 ≼ mm la ÷ 150) (deflection4 ≼ whole 10)
+
+  -- 5 slip
+  unfoldable pub slip : ℕ
+  slip = up (2·15 ⊗ Fg ⊕ 2·30 ⊗ Fq)
+
+  unfoldable pub check5 : Bool
+  check5 = whole slip ≼ whole 8000
+
+  -- 6 slenderness
+  unfoldable pub slender : Ratio
+  slender = factor ⊗ mm h ⊘ i
+
+  unfoldable pub check6 : Bool
+  check6 = slender ≼ whole (pick double 210 230)
+
+  -- 7 the pole
+  unfoldable pub check7 : List ℕ → ℕ → Bool
+  check7 sheet H = whole (N H) ≼ φ sheet ⊗ A ⊗ f
+
+  -- 8 the pole in wind; not due (4.3.2)
+  unfoldable pub check8 : List ℕ → ℕ → Bool
+  check8 sheet H = whole (Nw H) ⊘ (φ sheet ⊗ A) ⊕ whole Mw ⊘ W ≼ f
+
+  unfoldable pub calm : Bool
+  calm = both (w0 ≼ whole 350) (both isOpen (t ⊗ h ⊗ (whole 3 ⊗ la) ≼ whole 30))
+
+  -- 9 tie force
+  unfoldable pub tieForce : ℕ
+  tieForce = up (1·4 ⊗ whole wk ⊗ t ⊗ h ⊗ (whole 3 ⊗ la) ⊕ whole (pick double 5000 3000))
+
+  unfoldable pub check9 : Bool
+  check9 = whole tieForce ≼ capacity
+
+  -- 10 coupler
+  unfoldable pub check10 : Bool
+  check10 = whole (N (j .height)) ≼ whole 40000
+
+  -- 11 ground
+  unfoldable pub check11 : Bool
+  check11 = whole (N (j .height)) ≼ soilFactor ⊗ strength ⊗ pad
+
+  -- the row of eleven: 0 not due, 1 passes, 2 fails
+  unfoldable pub verdicts : List ℕ → List ℕ
+  verdicts sheet =
+      verdict check1
+      ∷ verdict check2
+      ∷ verdict check3
+      ∷ verdict check4
+      ∷ verdict check5
+      ∷ verdict check6
+      ∷ verdict (check7 sheet (j .height))
+      ∷ pick calm 0 (verdict (check8 sheet (j .height)))
+      ∷ verdict check9
+      ∷ verdict check10
+      ∷ verdict check11
+      ∷ []
+
+  -- the figures that the report gives; 2 and 4 in micrometres
+  unfoldable pub figures : List ℕ
+  figures =
+      moment1
+      ∷ up (whole 1000 ⊗ deflection2)
+      ∷ moment3
+      ∷ up (whole 1000 ⊗ deflection4)
+      ∷ slip
+      ∷ up slender
+      ∷ N (j .height)
+      ∷ Nw (j .height)
+      ∷ tieForce
+      ∷ N (j .height)
+      ∷ N (j .height)
+      ∷ []
+
+  -- ---- Heights
+
+  -- the pole checks at the height H
+  unfoldable pub poles : List ℕ → ℕ → Bool
+  poles sheet H = both (check7 sheet H) (either calm (check8 sheet H))
+
+  -- the stability height, cm
+  unfoldable pub stability : List ℕ → Height
+  stability sheet = greatest (poles sheet) 6000
+
+  -- the permitted height of a stability height (5.3.7), cm
+  unfoldable pub permitted : Height → Height
+  permitted Nowhere = Nowhere
+  permitted (At H) =
+      At
+      (min (pick (ltb H 2600) H (down (whole 100 ⊗ (hundredths H ⊘ (whole 1 ⊕ 0·001 ⊗ hundredths H)))))
+      (pick double 5000 2400))
+
+-- on an `unfolding` line: the job and the constants, and with `paper` all the figures and checks too
+unfoldable pub given : Unit {0}
+unfolding mm lb la h t layers working q Q S gk w0 exposure shield capacity strength pad A W i I f E g rail factor soilFactor
+given = tt
+
+unfoldable pub paper : Unit {0}
+unfolding fractions given greatest factorAt shape wk b G2 L G1 N Nw Mw Z φ Fg Fq Pg Pq moment1 check1 deflection2 check2 moment3 check3 deflection4 check4 slip check5 slender check6 check7 check8 calm tieForce check9 check10 check11 verdicts figures poles stability permitted
+paper = tt

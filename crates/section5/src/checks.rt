@@ -1,0 +1,148 @@
+// The eleven checks, each as a verdict: 0 not due, 1 passes, 2 fails.
+ghost use mathlib.Core.Path.{_≡_};
+ghost use Prim.Native.Nat.{_≤_, _<_};
+ghost use Rattle.basis.specs.Choice.{pick};
+ghost use Rattle.basis.specs.Figure.{Is};
+ghost use Rattle.job.specs.Bounds.{Bounds};
+ghost use Rattle.section5.specs.Section5.{verdict};
+ghost use Rattle.section5.specs.Whole.{wk, deflects, check1, check2, check3, check4, check5, check6, check9, check10, check11, calm, force, forceWind, verdicts, Small};
+use crate::constants::factor_of;
+use crate::constants::modulus_of;
+use crate::constants::radius_of;
+use crate::constants::slender_limit;
+use crate::constants::soil_factor;
+use crate::constants::stiffness_of;
+use crate::figures::face_of;
+use crate::figures::ledger_load;
+use crate::figures::ledger_moment;
+use crate::figures::slip_of;
+use crate::figures::tie_force;
+use crate::figures::transom_load;
+use crate::figures::transom_moment;
+use crate::poles::Pole;
+use crate::poles::bears_of;
+use crate::poles::bends_of;
+use basis::both_of;
+use job::Job;
+
+fn verdict_of(pass: bool) -> u8
+    ensures { λ r. ⌜ r ≡ verdict pass ⌝ }
+{
+    if pass { 1 } else { 2 }
+}
+
+// 0 where a check is not due.
+fn due_of(calm: bool, v: u8) -> u8
+    ensures { λ r. ⌜ r ≡ pick calm 0 v ⌝ }
+{
+    if calm { 0 } else { v }
+}
+
+// The span cancels in the first comparison, which would not fit 64 bits with it.
+fn deflects_at(load: u64, span: u64, scale: u64) -> bool
+    requires { ⌜ (load ≤ 21000000000000000) × (0 < span) × (span ≤ 200) × (scale ≤ 107779200000000000) ⌝ }
+    ensures { λ r. ⌜ r ≡ deflects load span scale ⌝ }
+{
+    both_of(15 * load <= scale, load * span <= 10 * scale)
+}
+
+fn check1_of(j: Job) -> u8
+    requires { ⌜ Bounds j ⌝ }
+    ensures { λ r. ⌜ r ≡ verdict (check1 j) ⌝ }
+{
+    verdict_of(transom_moment(j) <= 205 * modulus_of(j.tube))
+}
+
+fn check2_of(j: Job) -> u8
+    requires { ⌜ Bounds j ⌝ }
+    ensures { λ r. ⌜ r ≡ verdict (check2 j) ⌝ }
+{
+    let lb = j.lb as u64;
+    verdict_of(deflects_at(transom_load(j), lb, 1536 * stiffness_of(j.tube)))
+}
+
+fn check3_of(j: Job) -> u8
+    requires { ⌜ Bounds j ⌝ }
+    ensures { λ r. ⌜ r ≡ verdict (check3 j) ⌝ }
+{
+    verdict_of(ledger_moment(j) <= 205 * modulus_of(j.tube))
+}
+
+fn check4_of(j: Job) -> u8
+    requires { ⌜ Bounds j ⌝ }
+    ensures { λ r. ⌜ r ≡ verdict (check4 j) ⌝ }
+{
+    let la = j.la as u64;
+    verdict_of(deflects_at(ledger_load(j), la, 4000000 * stiffness_of(j.tube)))
+}
+
+fn check5_of(j: Job) -> u8
+    requires { ⌜ Bounds j ⌝ }
+    ensures { λ r. ⌜ r ≡ verdict (check5 j) ⌝ }
+{
+    verdict_of(slip_of(j) <= 8000)
+}
+
+fn check6_of(j: Job) -> u8
+    requires { ⌜ Bounds j ⌝ }
+    ensures { λ r. ⌜ r ≡ verdict (check6 j) ⌝ }
+{
+    let step = j.step as u64;
+    verdict_of(factor_of(j) * step <= slender_limit(j.family) * radius_of(j.tube))
+}
+
+// Check 8 is not due (4.3.2).
+// requires: judge shows the bounds by examining the job.
+pub fn calm_of(j: Job) -> bool
+    requires { ⌜ Bounds j ⌝ }
+    ensures { λ r. ⌜ r ≡ calm j ⌝ }
+{
+    both_of(
+        j.wind <= 350,
+        both_of(j.enclosure == 1, face_of(j) <= 300000),
+    )
+}
+
+fn check9_of(j: Job, w: u64) -> u8
+    requires { ⌜ Bounds j × Is w (wk j) 17472 ⌝ }
+    ensures { λ r. ⌜ r ≡ verdict (check9 j) ⌝ }
+{
+    let capacity = j.capacity as u64;
+    verdict_of(tie_force(j, w) <= capacity)
+}
+
+fn check10_of(p: Pole, j: Job, n: u64) -> u8
+    requires { ⌜ n ≡ force p (j .height) ⌝ }
+    ensures { λ r. ⌜ r ≡ verdict (check10 p j) ⌝ }
+{
+    verdict_of(n <= 40000)
+}
+
+fn check11_of(p: Pole, j: Job, n: u64) -> u8
+    requires { ⌜ Bounds j × Is n (force p (j .height)) 142000 ⌝ }
+    ensures { λ r. ⌜ r ≡ verdict (check11 p j) ⌝ }
+{
+    let strength = j.strength as u64;
+    let pad = j.pad as u64;
+    verdict_of(100 * n <= soil_factor(j.soil) * strength * pad)
+}
+
+// The row of eleven, from wk, N, Nw and whether check 8 is due.
+// requires: judge shows the bounds, and hands on what it worked out of the job and its pole.
+pub fn verdicts_of(p: Pole, j: Job, w: u64, n: u64, nw: u64, quiet: bool) -> [u8; 11]
+    requires { ⌜ Small p × Bounds j × Is w (wk j) 17472 × Is n (force p (j .height)) 142000 × (nw ≡ forceWind p (j .height)) × (quiet ≡ calm j) ⌝ }
+    ensures { λ r. ⌜ r ≡ verdicts p j ⌝ }
+{
+    let v1 = check1_of(j);
+    let v2 = check2_of(j);
+    let v3 = check3_of(j);
+    let v4 = check4_of(j);
+    let v5 = check5_of(j);
+    let v6 = check6_of(j);
+    let v7 = verdict_of(bears_of(p, n));
+    let v8 = due_of(quiet, verdict_of(bends_of(p, nw)));
+    let v9 = check9_of(j, w);
+    let v10 = check10_of(p, j, n);
+    let v11 = check11_of(p, j, n);
+    [v1, v2, v3, v4, v5, v6, v7, v8, v9, v10, v11]
+}
