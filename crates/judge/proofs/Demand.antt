@@ -49,7 +49,7 @@ module _ (s : List ℕ) (j : Job) (a : Accepted s j) where
   unfolding A.judgement
   verdicts-are = ap (λ r. r .verdicts) whole
 
-  height-is : heightOf s j ≡ W.fromCount (W.climb (W.poleOf s j) (W.calm j))
+  height-is : heightOf s j ≡ W.fromCount (W.heightCount (W.poleOf s j) (W.notDue j))
   unfolding A.judgement
   height-is = ap (λ r. r .stability) whole
 
@@ -58,16 +58,16 @@ no-pass-gained s j k a b h i =
     rw (verdicts-are s j a, verdicts-are s k b) (worse-at (worse s h (bounds k (job-stands s k b)) (sheet-stands s k b)) i)
 
 no-height-gained : (s : List ℕ) (j k : Job) → Accepted s j → Accepted s k → Harsher j k → rank (heightOf s k) ≤ rank (heightOf s j)
-unfolding W.climb
+unfolding W.heightCount
 no-height-gained s j k a b h =
-    rw (height-is s j a, height-is s k b, rank-count (W.climb (W.poleOf s k) (W.calm k)), rank-count (W.climb (W.poleOf s j) (W.calm j)))
-    (top-mono (W.poles (W.poleOf s j) (W.calm j)) (W.poles (W.poleOf s k) (W.calm k)) (λ H. keep-poles s h (bounds k (job-stands s k b)) (sheet-stands s k b) (le-refl H)) 6001)
+    rw (height-is s j a, height-is s k b, rank-count (W.heightCount (W.poleOf s k) (W.notDue k)), rank-count (W.heightCount (W.poleOf s j) (W.notDue j)))
+    (top-mono (W.poles (W.poleOf s j) (W.notDue j)) (W.poles (W.poleOf s k) (W.notDue k)) (λ H. keep-poles s h (bounds k (job-stands s k b)) (sheet-stands s k b) (le-refl H)) 6001)
 
 height-exact : (s : List ℕ) (j : Job) → Accepted s j → (H : ℕ) → H ≤ 6000 → T (P.poles j s H) ↔ UpTo H (heightOf s j)
-unfolding W.climb
+unfolding W.heightCount
 height-exact s j a H l =
-    let e = top-exact (W.poles (W.poleOf s j) (W.calm j)) (λ m n. keep-poles s (reflexive j) (bounds j (job-stands s j a)) (sheet-stands s j a)) 6001 H (omega arith) in
-    let u = up-to (W.climb (W.poleOf s j) (W.calm j)) H in
+    let e = top-exact (W.poles (W.poleOf s j) (W.notDue j)) (λ m n. keep-poles s (reflexive j) (bounds j (job-stands s j a)) (sheet-stands s j a)) 6001 H (omega arith) in
+    let u = up-to (W.heightCount (W.poleOf s j) (W.notDue j)) H in
     rw (poles-same j s H, height-is s j a) (λ t. u .1 (e .0 t), λ v. e .1 (u .0 v))
 
 accepted : Accepted sheetT mild × Accepted sheetT harsh

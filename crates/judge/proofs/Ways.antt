@@ -55,6 +55,6 @@ module _ (s : List ℕ) (j : Job) where
     ready h = (sheet-stands (accepted h), bounds j (job-stands (accepted h)))
 
   -- the parts of a judgement, as the code works them out
-  pub assembled : {p : Pole} {v f : List ℕ} {h k : Height} {n w m z : ℕ} {calm : Bool} → p ≡ W.poleOf s j → calm ≡ W.calm j → n ≡ W.climb p calm → v ≡ W.verdicts p j → f ≡ W.figures p j → h ≡ W.fromCount n → k ≡ W.permittedOf (j .family) (W.fromCount n) → w ≡ W.wk j → m ≡ W.mw j → z ≡ W.slenderness j → record { verdicts = v; figures = f; stability = h; permitted = k; wk = w; mw = m; z = z } ≡ A.judgement (W.poleOf s j) j
+  pub assembled : {p : Pole} {v f : List ℕ} {h k : Height} {n w m z : ℕ} {notDue : Bool} → p ≡ W.poleOf s j → notDue ≡ W.notDue j → n ≡ W.heightCount p notDue → v ≡ W.verdicts p j → f ≡ W.figures p j → h ≡ W.fromCount n → k ≡ W.permittedOf (j .family) (W.fromCount n) → w ≡ W.wk j → m ≡ W.mw j → z ≡ W.columnSlenderness j → record { verdicts = v; figures = f; stability = h; permitted = k; wk = w; mw = m; z = z } ≡ A.judgement (W.poleOf s j) j
   unfolding A.judgement
   assembled e q c v f h k w m z = cc

@@ -12,7 +12,7 @@ use Rattle.basis.specs.declared.Refusal.the-variants.{Nothing}
 use Rattle.job.specs.declared.Job.{Job}
 use Rattle.job.specs.Examine as Job
 use Rattle.sheet.specs.Sheet as Sheet
-use Rattle.section5.specs.declared.heights.Height.the-variants.{Nowhere}
+use Rattle.section5.specs.declared.heights.Height.the-variants.{None}
 use Rattle.judge.specs.declared.Judgement.{Judgement}
 use Rattle.judge.specs.declared.Judged.{Judged}
 use Rattle.section5.specs.Section5.{verdicts, figures, stability, permitted, wk, Mw, Z}
@@ -43,8 +43,8 @@ blank =
     record {
       verdicts = replicate 11 0;
       figures = replicate 11 0;
-      stability = Nowhere;
-      permitted = Nowhere;
+      stability = None;
+      permitted = None;
       wk = 0;
       mw = 0;
       z = 0;

@@ -9,7 +9,7 @@ use lib.Dec.{T}
 use Rattle.job.specs.declared.Job.{Job}
 use Rattle.job.specs.Job.{jobOf}
 use Rattle.section5.specs.declared.heights.Height.{Height}
-use Rattle.section5.specs.declared.heights.Height.the-variants.{Nowhere, At}
+use Rattle.section5.specs.declared.heights.Height.the-variants.{None, At}
 use Rattle.section5.specs.Section5.{poles}
 use Rattle.judge.specs.Answer.{Accepted, answer}
 use Rattle.section5.specs.Harsher.{Harsher}
@@ -17,12 +17,12 @@ use Rattle.section5.specs.Marked.{sheetT}
 
 -- heights in order: none counts as below 0
 abbrev pub rank : Height → ℕ
-rank Nowhere = 0
+rank None = 0
 rank (At H) = suc H
 
 -- H is up to the height; nothing is, where there is none
 abbrev pub UpTo : ℕ → Height → Type 0
-UpTo H Nowhere = ⊥
+UpTo H None = ⊥
 UpTo H (At most) = H ≤ most
 
 -- verdict i, from 0, of what judging answers, and the stability height of it

@@ -2,7 +2,7 @@
 -- Assumes nothing.
 use Rattle.job.specs.declared.Job.{Job}
 use Rattle.section5.specs.declared.poles.Pole.{Pole}
-use Rattle.section5.specs.Whole.{verdicts, figures, fromCount, climb, calm, permittedOf, wk, mw, slenderness}
+use Rattle.section5.specs.Whole.{verdicts, figures, fromCount, heightCount, notDue, permittedOf, wk, mw, columnSlenderness}
 use Rattle.judge.specs.declared.Judgement.{Judgement}
 
 unfoldable pub judgement : Pole → Job → Judgement
@@ -10,9 +10,9 @@ judgement p j =
     record {
       verdicts = verdicts p j;
       figures = figures p j;
-      stability = fromCount (climb p (calm j));
-      permitted = permittedOf (j .family) (fromCount (climb p (calm j)));
+      stability = fromCount (heightCount p (notDue j));
+      permitted = permittedOf (j .family) (fromCount (heightCount p (notDue j)));
       wk = wk j;
       mw = mw j;
-      z = slenderness j;
+      z = columnSlenderness j;
     }

@@ -9,18 +9,18 @@ use basis::Refusal;
 use basis::first_of;
 use basis::number_of;
 use job::Job;
-use section5::checks::calm_of;
+use section5::checks::not_due_of;
 use section5::checks::verdicts_of;
+use section5::figures::column_slenderness;
 use section5::figures::figures_of;
-use section5::figures::slenderness_of;
 use section5::figures::wind_moment;
 use section5::figures::wind_pressure;
 use section5::heights::Height;
 use section5::heights::height_of;
 use section5::heights::permitted_of;
-use section5::poles::climb_of;
 use section5::poles::force_of;
 use section5::poles::force_wind_of;
+use section5::poles::height_count;
 use section5::poles::pole_of;
 
 // What a job that is accepted is told: each place of a row is fixed by its check.
@@ -47,14 +47,14 @@ fn judgement_of(sheet: &[u16], j: Job) -> Judgement
     let height = j.height as u64;
     let w = wind_pressure(j);
     let m = wind_moment(j, w);
-    let z = slenderness_of(j);
-    let quiet = calm_of(j);
+    let z = column_slenderness(j);
+    let exempt = not_due_of(j);
     let p = pole_of(sheet, j, z, m);
     let n = force_of(p, height);
     let nw = force_wind_of(p, height);
-    let count = climb_of(p, quiet);
+    let count = height_count(p, exempt);
     Judgement {
-        verdicts: verdicts_of(p, j, w, n, nw, quiet),
+        verdicts: verdicts_of(p, j, w, n, nw, exempt),
         figures: figures_of(p, j, w, n, nw),
         stability: height_of(count),
         permitted: permitted_of(j.family, count),
@@ -71,8 +71,8 @@ fn blank_of() -> Judgement
     Judgement {
         verdicts: [0; 11],
         figures: [0; 11],
-        stability: Height::Nowhere,
-        permitted: Height::Nowhere,
+        stability: Height::None,
+        permitted: Height::None,
         wk: 0,
         mw: 0,
         z: 0,

@@ -14,12 +14,12 @@ use Rattle.job.specs.Bounds.{Bounds}
 use Rattle.sheet.specs.Sheet.{Stands}
 use Rattle.sheet.specs.Factor.{over, under}
 use Rattle.sheet.proofs.Falls.{Weaker, weakens}
-use Rattle.section5.specs.Whole.{area, modulus, radius, stiffness, slenderLimit, slenderness, poleOf, check1, check2, check3, check4, check5, check6, check7, check8, calm, check9, check10, check11, verdicts, poles}
+use Rattle.section5.specs.Whole.{area, modulus, radius, stiffness, slenderLimit, columnSlenderness, poleOf, check1, check2, check3, check4, check5, check6, check7, check8, notDue, check9, check10, check11, verdicts, poles}
 use Rattle.section5.specs.Harsher.{Harsher}
 use Rattle.section5.proofs.Verdicts.{fails, fails-due, Worse, none, next}
 use Rattle.section5.proofs.Limits.{deflects-keep, bears-keep, bends-keep}
 use Rattle.section5.proofs.Growth.{force-grows, forceWind-grows, mw-grows, transomMoment-grows, transomLoad-grows, ledgerMoment-grows, ledgerLoad-grows, slip-grows, face-grows, tieForce-grows, soilFactor-falls}
-use Rattle.section5.proofs.LengthFactor.{factor-grows, slenderness-grows}
+use Rattle.section5.proofs.LengthFactor.{factor-grows, columnSlenderness-grows}
 
 area-pos : (t : ℕ) → 0 < area t
 area-pos t = go (eqb t 1)
@@ -57,8 +57,8 @@ module _ (s : List ℕ) {j k : Job} (h : Harsher j k) (b : Bounds k) (f : Stands
   unfolding check6
   keep6 = le-keep (mul-le-mul (factor-grows h) (h .step)) (mul-le-mul (limit slenderLimit (h .family)) (limit radius (h .tube)))
 
-  weaker : Weaker (over s (slenderness j)) (under (slenderness j)) (over s (slenderness k)) (under (slenderness k))
-  weaker = weakens s f (slenderness-grows h)
+  weaker : Weaker (over s (columnSlenderness j)) (under (columnSlenderness j)) (over s (columnSlenderness k)) (under (columnSlenderness k))
+  weaker = weakens s f (columnSlenderness-grows h)
 
   keep7 : {H H′ : ℕ} → H ≤ H′ → Keeps (check7 (poleOf s j) H) (check7 (poleOf s k) H′)
   unfolding check7 poleOf
@@ -68,9 +68,9 @@ module _ (s : List ℕ) {j k : Job} (h : Harsher j k) (b : Bounds k) (f : Stands
   unfolding check8 poleOf
   keep8 l = bends-keep weaker (forceWind-grows h s l) (mw-grows h) (ap area (h .tube)) (area-pos (k .tube)) (ap modulus (h .tube))
 
-  keep-calm : Keeps (calm j) (calm k)
-  unfolding calm
-  keep-calm = both-keep (le-keep (h .wind) (le-refl 350)) (both-keep (eq-keep 1 (h .enclosure)) (le-keep (face-grows h) (le-refl 300000)))
+  keep-notDue : Keeps (notDue j) (notDue k)
+  unfolding notDue
+  keep-notDue = both-keep (le-keep (h .wind) (le-refl 350)) (both-keep (eq-keep 1 (h .enclosure)) (le-keep (face-grows h) (le-refl 300000)))
 
   keep9 : Keeps (check9 j) (check9 k)
   unfolding check9
@@ -84,9 +84,9 @@ module _ (s : List ℕ) {j k : Job} (h : Harsher j k) (b : Bounds k) (f : Stands
   unfolding check11
   keep11 = le-keep (mul-le-mul-left 100 (force-grows h s (h .height))) (search (mono, soilFactor-falls h) depth 12)
 
-  pub keep-poles : {H H′ : ℕ} → H ≤ H′ → Keeps (poles (poleOf s j) (calm j) H) (poles (poleOf s k) (calm k) H′)
+  pub keep-poles : {H H′ : ℕ} → H ≤ H′ → Keeps (poles (poleOf s j) (notDue j) H) (poles (poleOf s k) (notDue k) H′)
   unfolding poles
-  keep-poles l = both-keep (keep7 l) (either-keep keep-calm (keep8 l))
+  keep-poles l = both-keep (keep7 l) (either-keep keep-notDue (keep8 l))
 
   pub worse : Worse (verdicts (poleOf s j) j) (verdicts (poleOf s k) k)
   unfolding verdicts
@@ -98,7 +98,7 @@ module _ (s : List ℕ) {j k : Job} (h : Harsher j k) (b : Bounds k) (f : Stands
       (next (fails keep5)
       (next (fails keep6)
       (next (fails (keep7 (h .height)))
-      (next (fails-due keep-calm (keep8 (h .height)))
+      (next (fails-due keep-notDue (keep8 (h .height)))
       (next (fails keep9)
       (next (fails keep10)
       (next (fails keep11)

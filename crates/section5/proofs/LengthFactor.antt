@@ -16,7 +16,7 @@ use Rattle.basis.proofs.Searches.{every-at}
 use Rattle.basis.proofs.Fits.{lt-below}
 use Rattle.job.specs.declared.Job.{Job}
 use Rattle.section5.specs.Section5.{factors, factorAt, familyPlace, spacingRow, tieColumn}
-use Rattle.section5.specs.Whole.{radius, factor, slenderness}
+use Rattle.section5.specs.Whole.{radius, factor, columnSlenderness}
 use Rattle.section5.specs.Harsher.{Harsher}
 
 -- the table grows along its rows and its columns: one test, computed
@@ -74,6 +74,6 @@ module _ {j k : Job} (h : Harsher j k) where
       (factorAt-grows (familyPlace (k .family)) _ _ _ _ (familyPlace-most (k .family)) (spacingRow-grows (k .family) (h .lb))
       (spacingRow-most (k .family) (k .lb)) (step-grows 3 (h .ties) zero≤ (le-refl 1)) (tieColumn-most (k .ties)))
 
-  pub slenderness-grows : slenderness j ≤ slenderness k
-  unfolding slenderness
-  slenderness-grows = ceil-grows (search (mono, factor-grows) depth 12) (ap (λ (t : ℕ). 1000 * radius t) (h .tube))
+  pub columnSlenderness-grows : columnSlenderness j ≤ columnSlenderness k
+  unfolding columnSlenderness
+  columnSlenderness-grows = ceil-grows (search (mono, factor-grows) depth 12) (ap (λ (t : ℕ). 1000 * radius t) (h .tube))

@@ -13,7 +13,7 @@ use Rattle.basis.proofs.Fits.{ceil-below}
 use Rattle.job.specs.declared.Job.{Job}
 use Rattle.job.specs.Bounds.{Bounds}
 use Rattle.section5.specs.declared.poles.Pole.{Pole}
-use Rattle.section5.specs.Whole.{borne, borneWind, board, rail, overhang, shapeUnit, tieBase, deck, fittings, live, Small, force, forceWind, wk, mw, transomMoment, factor, slenderness, face, ledgerMoment, ledgerLoad, transomLoad, slip, tieForce}
+use Rattle.section5.specs.Whole.{greatestForce, greatestForceWind, board, rail, overhang, shapeUnit, tieBase, deck, fittings, live, Small, force, forceWind, wk, mw, transomMoment, factor, columnSlenderness, face, ledgerMoment, ledgerLoad, transomLoad, slip, tieForce}
 use Rattle.section5.proofs.LengthFactor.{factor-most}
 
 pub board-most : (b : ℕ) → board b ≤ 350
@@ -56,9 +56,9 @@ module _ {j : Job} (r : Bounds j) where
   unfolding mw ceil
   mw-most = ceil-below 1000000 (119 * 17472 * 200 * (200 * 200)) tt (search (mono, wk-most) depth 12)
 
-  pub slenderness-most : slenderness j ≤ 293
-  unfolding slenderness ceil
-  slenderness-most = go (eqb (j .tube) 1)
+  pub columnSlenderness-most : columnSlenderness j ≤ 293
+  unfolding columnSlenderness ceil
+  columnSlenderness-most = go (eqb (j .tube) 1)
     where
       most : (d : ℕ) → T (leb (ceil (1155 * 200 * 200) d) 293) → ceil (1155 * factor j * j .step) d ≤ 293
       most d t = ceil-below d (1155 * 200 * 200) t (search (mono, factor-most) depth 12)
@@ -101,13 +101,13 @@ module _ {p : Pole} (r : Small p) {H : ℕ} (l : H ≤ 6000) where
   forceWind-most = ceil-below 2000000 (120 * (200 * 500 * 6000 + 280000000) + 119 * 1110000000) tt (search mono depth 12)
 
 module _ {p : Pole} (r : Small p) where
-  pub borne-most : borne (p .over) (p .under) (p .area) ≤ 7320 * (205 * 489)
-  unfolding borne
-  borne-most = le-trans (div-le-self _ (p .under)) (search mono depth 12)
+  pub greatestForce-most : greatestForce (p .over) (p .under) (p .area) ≤ 7320 * (205 * 489)
+  unfolding greatestForce
+  greatestForce-most = le-trans (div-le-self _ (p .under)) (search mono depth 12)
 
   pub room-most : 205 * p .modulus - p .moment ≤ 205 * 5130
   room-most = omega arith
 
-  pub borneWind-most : borneWind (p .moment) (p .over) (p .under) (p .area) (p .modulus) ≤ 7320 * 489 * (205 * 5130)
-  unfolding borneWind
-  borneWind-most = le-trans (div-le-self _ (p .under * p .modulus)) (search (mono, room-most) depth 12)
+  pub greatestForceWind-most : greatestForceWind (p .moment) (p .over) (p .under) (p .area) (p .modulus) ≤ 7320 * 489 * (205 * 5130)
+  unfolding greatestForceWind
+  greatestForceWind-most = le-trans (div-le-self _ (p .under * p .modulus)) (search (mono, room-most) depth 12)

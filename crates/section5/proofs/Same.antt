@@ -14,7 +14,7 @@ use Rattle.basis.proofs.Scale.{up-is, up-by, down-is}
 use Rattle.job.specs.declared.Job.{Job}
 use Rattle.sheet.specs.Factor.{over, under}
 use Rattle.section5.specs.declared.heights.Height.{Height}
-use Rattle.section5.specs.declared.heights.Height.the-variants.{Nowhere, At}
+use Rattle.section5.specs.declared.heights.Height.the-variants.{None, At}
 use Rattle.section5.specs.Decimals.{0·001}
 use Rattle.section5.specs.Section5 as P
 use Rattle.section5.specs.Whole as W
@@ -56,8 +56,8 @@ module _ (j : Job) where
   unfolding fractions P.given W.constants P.tieForce W.face W.tieForce
   tieForce-same = rw wk-same (up-is _ _ _ (omega arith))
 
-  pub Z-same : P.Z j ≡ W.slenderness j
-  unfolding fractions P.given W.constants P.Z W.slenderness
+  pub Z-same : P.Z j ≡ W.columnSlenderness j
+  unfolding fractions P.given W.constants P.Z W.columnSlenderness
   Z-same = up-by 10000 _ _ _ (omega arith)
 
   pub check1-same : P.check1 j ≡ W.check1 j
@@ -81,24 +81,24 @@ module _ (j : Job) where
   check5-same = rw slip-same (same _ _ (omega tests))
 
   pub check6-same : P.check6 j ≡ W.check6 j
-  unfolding fractions _≼_ P.given W.constants P.slender P.check6 W.check6
+  unfolding fractions _≼_ P.given W.constants P.slenderness P.check6 W.check6
   check6-same = same _ _ (omega tests)
 
   pub check7-same : (s : List ℕ) (H : ℕ) → P.check7 j s H ≡ W.check7 (W.poleOf s j) H
   unfolding fractions _≼_ P.given W.constants P.φ P.check7 over under W.poleOf W.bears W.check7
   check7-same s H =
       rw (N-same s H, Z-same)
-      (cases (leb (W.slenderness j) 250) (λ e. rw e (same _ _ (omega tests))) (λ e. rw e (same _ _ (omega tests))))
+      (cases (leb (W.columnSlenderness j) 250) (λ e. rw e (same _ _ (omega tests))) (λ e. rw e (same _ _ (omega tests))))
 
   pub check8-same : (s : List ℕ) (H : ℕ) → P.check8 j s H ≡ W.check8 (W.poleOf s j) H
   unfolding fractions _≼_ P.given W.constants P.φ P.check8 over under W.poleOf W.bends W.check8
   check8-same s H =
       rw (Nw-same s H, Mw-same, Z-same)
-      (cases (leb (W.slenderness j) 250) (λ e. rw e (same _ _ (omega tests))) (λ e. rw e (same _ _ (omega tests))))
+      (cases (leb (W.columnSlenderness j) 250) (λ e. rw e (same _ _ (omega tests))) (λ e. rw e (same _ _ (omega tests))))
 
-  pub calm-same : P.calm j ≡ W.calm j
-  unfolding fractions _≼_ P.given W.constants P.calm W.face W.calm
-  calm-same = ap₂ both (same _ _ (omega tests)) (ap (both (P.isOpen j)) (same _ _ (omega tests)))
+  pub notDue-same : P.notDue j ≡ W.notDue j
+  unfolding fractions _≼_ P.given W.constants P.notDue W.face W.notDue
+  notDue-same = ap₂ both (same _ _ (omega tests)) (ap (both (P.isOpen j)) (same _ _ (omega tests)))
 
   pub check9-same : P.check9 j ≡ W.check9 j
   unfolding fractions _≼_ P.given W.constants P.check9 W.check9
@@ -119,33 +119,33 @@ module _ (j : Job) where
   -- the permitted height of a stability height, and of none
   pub permitted-same : (h : Height) → P.permitted j h ≡ permittedOf (j .family) h
   unfolding P.permitted W.permitted
-  permitted-same Nowhere = refl
+  permitted-same None = refl
   permitted-same (At H) = rw (permitted-at H)
 
   pub verdicts-same : (s : List ℕ) → P.verdicts j s ≡ W.verdicts (W.poleOf s j) j
   unfolding P.verdicts W.verdicts
-  verdicts-same s = rw (check1-same, check2-same, check3-same, check4-same, check5-same, check6-same, check7-same s (j .height), check8-same s (j .height), calm-same, check9-same, check10-same s, check11-same s)
+  verdicts-same s = rw (check1-same, check2-same, check3-same, check4-same, check5-same, check6-same, check7-same s (j .height), check8-same s (j .height), notDue-same, check9-same, check10-same s, check11-same s)
 
-  pub sag2-same : up (whole 1000 ⊗ P.deflection2 j) ≡ W.transomSag j
-  unfolding fractions P.given W.constants P.deflection2 W.transomLoad W.transomSag
+  pub sag2-same : up (whole 1000 ⊗ P.deflection2 j) ≡ W.transomDeflection j
+  unfolding fractions P.given W.constants P.deflection2 W.transomLoad W.transomDeflection
   sag2-same = up-by 5000000000000 _ _ _ (omega arith)
 
-  pub sag4-same : up (whole 1000 ⊗ P.deflection4 j) ≡ W.ledgerSag j
-  unfolding fractions P.given W.constants P.Pg P.Pq P.deflection4 W.ledgerLoad W.ledgerSag
+  pub sag4-same : up (whole 1000 ⊗ P.deflection4 j) ≡ W.ledgerDeflection j
+  unfolding fractions P.given W.constants P.Pg P.Pq P.deflection4 W.ledgerLoad W.ledgerDeflection
   sag4-same = up-by 40000000000000000000 _ _ _ (omega arith)
 
-  pub slender-same : up (P.slender j) ≡ W.slender j
-  unfolding fractions P.given W.constants P.slender W.slender
-  slender-same = up-by 10000 _ _ _ (omega arith)
+  pub slenderness-same : up (P.slenderness j) ≡ W.slenderness j
+  unfolding fractions P.given W.constants P.slenderness W.slenderness
+  slenderness-same = up-by 10000 _ _ _ (omega arith)
 
   pub figures-same : (s : List ℕ) → P.figures j ≡ W.figures (W.poleOf s j) j
   unfolding P.figures W.figures
-  figures-same s = rw (moment1-same, sag2-same, moment3-same, sag4-same, slip-same, slender-same, N-same s (j .height), Nw-same s (j .height), tieForce-same)
+  figures-same s = rw (moment1-same, sag2-same, moment3-same, sag4-same, slip-same, slenderness-same, N-same s (j .height), Nw-same s (j .height), tieForce-same)
 
-  pub poles-same : (s : List ℕ) (H : ℕ) → P.poles j s H ≡ W.poles (W.poleOf s j) (W.calm j) H
+  pub poles-same : (s : List ℕ) (H : ℕ) → P.poles j s H ≡ W.poles (W.poleOf s j) (W.notDue j) H
   unfolding P.poles W.poles
-  poles-same s H = rw (check7-same s H, check8-same s H, calm-same)
+  poles-same s H = rw (check7-same s H, check8-same s H, notDue-same)
 
-  pub stability-same : (s : List ℕ) → P.stability j s ≡ fromCount (W.climb (W.poleOf s j) (W.calm j))
-  unfolding P.stability W.climb
+  pub stability-same : (s : List ℕ) → P.stability j s ≡ fromCount (W.heightCount (W.poleOf s j) (W.notDue j))
+  unfolding P.stability W.heightCount
   stability-same s = greatest-top (P.poles j s) 6000 ∙ ap (λ (p : ℕ → Bool). fromCount (top p 6001)) (fun-ext (poles-same s))

@@ -10,7 +10,7 @@ use Rattle.basis.specs.Marked.{Row, row, Hold}
 use Rattle.job.specs.declared.Job.{Job}
 use Rattle.job.specs.Job.{jobOf}
 use Rattle.section5.specs.declared.heights.Height.{Height}
-use Rattle.section5.specs.declared.heights.Height.the-variants.{Nowhere, At}
+use Rattle.section5.specs.declared.heights.Height.the-variants.{None, At}
 use Rattle.section5.specs.Section5.{verdicts, figures, stability, permitted, wk, Mw, Z, paper}
 
 -- f at each number below n, before l
@@ -37,13 +37,13 @@ unfolding jobOf numbersJ
 jobJ-with k n = jobOf (set numbersJ (k - 1) n)
 
 -- a double row of tube 1 with spacing 155, t = 3 and the step h
-unfoldable pub wide-with : ℕ → Job
+unfoldable pub spacing155-with : ℕ → Job
 unfolding jobOf numbersJ
-wide-with h = jobOf (set (set (set numbersJ 2 155) 5 3) 4 h)
+spacing155-with h = jobOf (set (set (set numbersJ 2 155) 5 3) 4 h)
 
 -- a height as a row of no or one number
 unfoldable pub shown : Height → List ℕ
-shown Nowhere = []
+shown None = []
 shown (At H) = H ∷ []
 
 -- the verdict of a check, from 1, under sheet T
@@ -52,7 +52,7 @@ unfolding sheetT
 verdictOf check j = getD (verdicts j sheetT) (check - 1) 0
 
 pub rows : List Row
-unfolding sheetT jobJ jobJ-with wide-with shown verdictOf
+unfolding sheetT jobJ jobJ-with spacing155-with shown verdictOf
 rows =
     -- J's verdicts, figures, heights, wk, Mw and Z
     row (verdicts jobJ sheetT) (1 ∷ 1 ∷ 1 ∷ 1 ∷ 1 ∷ 1 ∷ 1 ∷ 0 ∷ 1 ∷ 1 ∷ 2 ∷ [])
@@ -66,7 +66,7 @@ rows =
     -- for a double row, stability 2,599 permits 2,599, 2,600 permits 2,534, 6,000 permits 5,000
     ∷ row (shown (permitted jobJ (At 2599)) ++ (shown (permitted jobJ (At 2600)) ++ shown (permitted jobJ (At 6000)))) (2599 ∷ 2534 ∷ 5000 ∷ [])
     -- double row, tube 1, spacing 155, t = 3: step 184 passes 6, 185 fails
-    ∷ row (verdictOf 6 (wide-with 184) ∷ verdictOf 6 (wide-with 185) ∷ []) (1 ∷ 2 ∷ [])
+    ∷ row (verdictOf 6 (spacing155-with 184) ∷ verdictOf 6 (spacing155-with 185) ∷ []) (1 ∷ 2 ∷ [])
     -- J with wind 350 has 8 not due, 351 due (and passes)
     ∷ row (verdictOf 8 (jobJ-with 15 350) ∷ verdictOf 8 (jobJ-with 15 351) ∷ []) (0 ∷ 1 ∷ [])
     ∷ []

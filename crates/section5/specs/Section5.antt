@@ -10,7 +10,7 @@ use Rattle.basis.specs.Fraction.{Ratio, whole, tenths, hundredths, thousandths,
 use Rattle.job.specs.declared.Job.{Job}
 use Rattle.section5.specs.Decimals.{0·001, 0·175, 0·213, 0·30, 0·7, 1·0, 1·146, 1·155, 1·19, 1·2, 1·3, 1·4, 1·615, 2·15, 2·30}
 use Rattle.section5.specs.declared.heights.Height.{Height}
-use Rattle.section5.specs.declared.heights.Height.the-variants.{Nowhere, At}
+use Rattle.section5.specs.declared.heights.Height.the-variants.{None, At}
 
 -- metres to millimetres; N·m to N·mm
 unfoldable pub mm : Ratio → Ratio
@@ -23,7 +23,7 @@ verdict false = 2
 
 -- the greatest H from 0 to n at which the test passes; none if not even 0 does
 unfoldable pub greatest : (ℕ → Bool) → ℕ → Height
-greatest p zero = elim (p zero) [ true ↦ At zero | false ↦ Nowhere ]
+greatest p zero = elim (p zero) [ true ↦ At zero | false ↦ None ]
 greatest p (suc n) = elim (p (suc n)) [ true ↦ At (suc n) | false ↦ greatest p n ]
 
 -- ---- Constants: the length factor
@@ -66,6 +66,7 @@ module _ (j : Job) where
   abbrev pub isOpen : Bool
   isOpen = eqb (j .enclosure) 1
 
+  -- pole spacing across, m; the other lengths in m too
   unfoldable pub lb : Ratio
   lb = hundredths (j .lb)
 
@@ -75,6 +76,7 @@ module _ (j : Job) where
   unfoldable pub h : Ratio
   h = hundredths (j .step)
 
+  -- tie interval, steps
   unfoldable pub t : Ratio
   t = whole (j .ties)
 
@@ -84,12 +86,14 @@ module _ (j : Job) where
   unfoldable pub working : Ratio
   working = whole (j .working)
 
+  -- greatest live load on one layer, and summed over layers, N/m²
   unfoldable pub q : Ratio
   q = whole (j .live)
 
   unfoldable pub Q : Ratio
   Q = whole (j .total)
 
+  -- nets per pole, N; structure weight per pole, N/m; basic wind, N/m²
   unfoldable pub S : Ratio
   S = whole (j .nets)
 
@@ -117,6 +121,7 @@ module _ (j : Job) where
 
   -- ---- Constants
 
+  -- tube 1: area A 489 mm², modulus W 5,080 mm³, radius i 15.8 mm, inertia I 121,900 mm⁴; tube 2: 452, 5,130, 17.0, 130,800
   unfoldable pub A : Ratio
   A = whole (pick tube1 489 452)
 
@@ -129,59 +134,74 @@ module _ (j : Job) where
   unfoldable pub I : Ratio
   I = whole (pick tube1 121900 130800)
 
+  -- N/mm²
   unfoldable pub f : Ratio
   f = whole 205
 
   unfoldable pub E : Ratio
   E = whole 206000
 
+  -- boards 300, 350, 350 N/m²; rails 110, 140, 140 N/m
   unfoldable pub g : Ratio
   g = whole (pick steel 300 350)
 
   unfoldable pub rail : Ratio
   rail = whole (pick steel 110 140)
 
+  -- the length factor, by spacing and tie interval
   unfoldable pub factor : Ratio
   factor = hundredths (factorAt (familyPlace (j .family)) (spacingRow (j .family) (j .lb)) (tieColumn (j .ties)))
 
+  -- 0.4 for soils 1 to 3, 0.5 for 4, 1.0 for 5
   unfoldable pub soilFactor : Ratio
   soilFactor = tenths (pick (ltb (j .soil) 4) 4 (pick (eqb (j .soil) 4) 5 10))
 
   -- ---- Figures
 
+  -- the shield when open; else 1.2 × shield × 1.0 (closed wall) or 1.3
   unfoldable pub shape : Ratio
   shape = pick isOpen shield (1·2 ⊗ shield ⊗ pick (eqb (j .wall) 1) 1·0 1·3)
 
+  -- wind, up to a whole N/m²
   unfoldable pub wk : ℕ
   wk = up (0·7 ⊗ exposure ⊗ shape ⊗ w0)
 
+  -- deck width: lb + 0.30 (double), lb (single)
   unfoldable pub b : Ratio
   b = pick double (lb ⊕ 0·30) lb
 
+  -- fittings: layers boarded × g × la × b / 2 + working layers × rail × la + S
   unfoldable pub G2 : Ratio
   G2 = layers ⊗ g ⊗ la ⊗ b ÷ 2 ⊕ working ⊗ rail ⊗ la ⊕ S
 
+  -- live
   unfoldable pub L : Ratio
   L = Q ⊗ la ⊗ b ÷ 2
 
+  -- structure, at the height H in cm
   unfoldable pub G1 : ℕ → Ratio
   G1 H = gk ⊗ hundredths H
 
+  -- forces, each up to a whole newton only when complete
   unfoldable pub N : ℕ → ℕ
   N H = up (1·2 ⊗ (G1 H ⊕ G2) ⊕ 1·4 ⊗ L)
 
   unfoldable pub Nw : ℕ → ℕ
   Nw H = up (1·2 ⊗ (G1 H ⊕ G2) ⊕ 1·19 ⊗ L)
 
+  -- moment, up to a whole N·mm
   unfoldable pub Mw : ℕ
   Mw = up (mm (1·19 ⊗ whole wk ⊗ la ⊗ h ² ÷ 10))
 
+  -- column slenderness, up to a whole number
   unfoldable pub Z : ℕ
   Z = up (1·155 ⊗ factor ⊗ mm h ⊘ i)
 
+  -- stability factor: the sheet's entry at Z, divided by 1000, for Z up to 250, and 7320 / Z² above
   unfoldable pub φ : List ℕ → Ratio
   φ sheet = pick (leb Z 250) (thousandths (getD sheet Z 0)) (whole 7320 ⊘ whole Z ²)
 
+  -- the ledger's dead and live end loads; Pg and Pq are without the factors 1.2 and 1.4
   unfoldable pub Fg : Ratio
   Fg = 1·2 ⊗ g ⊗ (la ÷ 2) ⊗ (lb ÷ 2)
 
@@ -196,71 +216,71 @@ module _ (j : Job) where
 
   -- ---- Eleven checks
 
-  -- 1 transom moment
+  -- 1 transom moment, at most f W
   unfoldable pub moment1 : ℕ
   moment1 = up (mm ((1·2 ⊗ g ⊕ 1·4 ⊗ q) ⊗ (la ÷ 2) ⊗ lb ² ÷ 8))
 
   unfoldable pub check1 : Bool
   check1 = whole moment1 ≼ f ⊗ W
 
-  -- 2 transom deflection, mm
+  -- 2 transom deflection 5wl⁴/(384EI), mm, with w = (g + q) la/2 in N/mm and l = lb; at most l/150 and at most 10 mm
   unfoldable pub deflection2 : Ratio
   deflection2 = whole 5 ⊗ ((g ⊕ q) ⊗ (la ÷ 2) ÷ 1000) ⊗ mm lb ⁴ ⊘ (whole 384 ⊗ E ⊗ I)
 
   unfoldable pub check2 : Bool
   check2 = both (deflection2 ≼ mm lb ÷ 150) (deflection2 ≼ whole 10)
 
-  -- 3 ledger moment
+  -- 3 ledger moment, at most f W
   unfoldable pub moment3 : ℕ
   moment3 = up (mm ((0·175 ⊗ Fg ⊕ 0·213 ⊗ Fq) ⊗ la))
 
   unfoldable pub check3 : Bool
   check3 = whole moment3 ≼ f ⊗ W
 
-  -- 4 ledger deflection, mm
+  -- 4 ledger deflection, mm, at most la/150 and at most 10 mm
   unfoldable pub deflection4 : Ratio
   deflection4 = (1·146 ⊗ Pg ⊕ 1·615 ⊗ Pq) ⊗ mm la ³ ⊘ (whole 100 ⊗ E ⊗ I)
 
   unfoldable pub check4 : Bool
   check4 = both (deflection4 ≼ mm la ÷ 150) (deflection4 ≼ whole 10)
 
-  -- 5 slip
+  -- 5 slip, at most 8,000
   unfoldable pub slip : ℕ
   slip = up (2·15 ⊗ Fg ⊕ 2·30 ⊗ Fq)
 
   unfoldable pub check5 : Bool
   check5 = whole slip ≼ whole 8000
 
-  -- 6 slenderness
-  unfoldable pub slender : Ratio
-  slender = factor ⊗ mm h ⊘ i
+  -- 6 factor × h / i, unrounded, at most 210 (double) or 230 (single)
+  unfoldable pub slenderness : Ratio
+  slenderness = factor ⊗ mm h ⊘ i
 
   unfoldable pub check6 : Bool
-  check6 = slender ≼ whole (pick double 210 230)
+  check6 = slenderness ≼ whole (pick double 210 230)
 
-  -- 7 the pole
+  -- 7 N, at most φ A f
   unfoldable pub check7 : List ℕ → ℕ → Bool
   check7 sheet H = whole (N H) ≼ φ sheet ⊗ A ⊗ f
 
-  -- 8 the pole in wind; not due (4.3.2)
+  -- 8 Nw/(φ A) + Mw/W, at most f; not due when w0 is at most 350, the enclosure is open and t × h × 3la is at most 30 m² (4.3.2)
   unfoldable pub check8 : List ℕ → ℕ → Bool
   check8 sheet H = whole (Nw H) ⊘ (φ sheet ⊗ A) ⊕ whole Mw ⊘ W ≼ f
 
-  unfoldable pub calm : Bool
-  calm = both (w0 ≼ whole 350) (both isOpen (t ⊗ h ⊗ (whole 3 ⊗ la) ≼ whole 30))
+  unfoldable pub notDue : Bool
+  notDue = both (w0 ≼ whole 350) (both isOpen (t ⊗ h ⊗ (whole 3 ⊗ la) ≼ whole 30))
 
-  -- 9 tie force
+  -- 9 tie force, at most the tie capacity
   unfoldable pub tieForce : ℕ
   tieForce = up (1·4 ⊗ whole wk ⊗ t ⊗ h ⊗ (whole 3 ⊗ la) ⊕ whole (pick double 5000 3000))
 
   unfoldable pub check9 : Bool
   check9 = whole tieForce ≼ capacity
 
-  -- 10 coupler
+  -- 10 N, at most 40,000
   unfoldable pub check10 : Bool
   check10 = whole (N (j .height)) ≼ whole 40000
 
-  -- 11 ground
+  -- 11 N, at most soil factor × strength × pad
   unfoldable pub check11 : Bool
   check11 = whole (N (j .height)) ≼ soilFactor ⊗ strength ⊗ pad
 
@@ -274,7 +294,7 @@ module _ (j : Job) where
       ∷ verdict check5
       ∷ verdict check6
       ∷ verdict (check7 sheet (j .height))
-      ∷ pick calm 0 (verdict (check8 sheet (j .height)))
+      ∷ pick notDue 0 (verdict (check8 sheet (j .height)))
       ∷ verdict check9
       ∷ verdict check10
       ∷ verdict check11
@@ -288,7 +308,7 @@ module _ (j : Job) where
       ∷ moment3
       ∷ up (whole 1000 ⊗ deflection4)
       ∷ slip
-      ∷ up slender
+      ∷ up slenderness
       ∷ N (j .height)
       ∷ Nw (j .height)
       ∷ tieForce
@@ -300,7 +320,7 @@ module _ (j : Job) where
 
   -- the pole checks at the height H
   unfoldable pub poles : List ℕ → ℕ → Bool
-  poles sheet H = both (check7 sheet H) (either calm (check8 sheet H))
+  poles sheet H = both (check7 sheet H) (either notDue (check8 sheet H))
 
   -- the stability height, cm
   unfoldable pub stability : List ℕ → Height
@@ -308,7 +328,7 @@ module _ (j : Job) where
 
   -- the permitted height of a stability height (5.3.7), cm
   unfoldable pub permitted : Height → Height
-  permitted Nowhere = Nowhere
+  permitted None = None
   permitted (At H) =
       At
       (min (pick (ltb H 2600) H (down (whole 100 ⊗ (hundredths H ⊘ (whole 1 ⊕ 0·001 ⊗ hundredths H)))))
@@ -320,5 +340,5 @@ unfolding mm lb la h t layers working q Q S gk w0 exposure shield capacity stren
 given = tt
 
 unfoldable pub paper : Unit {0}
-unfolding fractions given greatest factorAt shape wk b G2 L G1 N Nw Mw Z φ Fg Fq Pg Pq moment1 check1 deflection2 check2 moment3 check3 deflection4 check4 slip check5 slender check6 check7 check8 calm tieForce check9 check10 check11 verdicts figures poles stability permitted
+unfolding fractions given greatest factorAt shape wk b G2 L G1 N Nw Mw Z φ Fg Fq Pg Pq moment1 check1 deflection2 check2 moment3 check3 deflection4 check4 slip check5 slenderness check6 check7 check8 notDue tieForce check9 check10 check11 verdicts figures poles stability permitted
 paper = tt

@@ -12,7 +12,7 @@ use Rattle.job.specs.declared.Job.{Job}
 use Rattle.sheet.specs.Factor.{over, under}
 use Rattle.section5.specs.declared.heights.Height.{Height}
 use Rattle.section5.specs.declared.poles.Pole.{Pole}
-use Rattle.section5.specs.declared.heights.Height.the-variants.{Nowhere, At}
+use Rattle.section5.specs.declared.heights.Height.the-variants.{None, At}
 use Rattle.section5.specs.Section5.{verdict, factorAt, familyPlace, spacingRow, tieColumn}
 
 -- ---- constants: by tube (2), boards (8), soil (23), family (1), enclosure (17) and wall (19)
@@ -95,12 +95,12 @@ live j = j .total * j .la * deck j
 -- ---- the column
 
 -- up to a whole number
-unfoldable pub slenderness : Job → ℕ
-slenderness j = ceil (1155 * factor j * j .step) (1000 * radius (j .tube))
+unfoldable pub columnSlenderness : Job → ℕ
+columnSlenderness j = ceil (1155 * factor j * j .step) (1000 * radius (j .tube))
 
 -- factor × h / i, up
-unfoldable pub slender : Job → ℕ
-slender j = ceil (factor j * j .step) (radius (j .tube))
+unfoldable pub slenderness : Job → ℕ
+slenderness j = ceil (factor j * j .step) (radius (j .tube))
 
 -- ---- the pole
 
@@ -111,8 +111,8 @@ poleOf s j =
       weight = j .weight;
       fittings = fittings j;
       live = live j;
-      over = over s (slenderness j);
-      under = under (slenderness j);
+      over = over s (columnSlenderness j);
+      under = under (columnSlenderness j);
       area = area (j .tube);
       modulus = modulus (j .tube);
       moment = mw j;
@@ -136,8 +136,8 @@ unfoldable pub transomLoad : Job → ℕ
 transomLoad j = (board (j .boards) + j .live) * j .la * (j .lb * j .lb * j .lb)
 
 -- µm, up
-unfoldable pub transomSag : Job → ℕ
-transomSag j = ceil (1000 * (transomLoad j * j .lb)) (1536 * stiffness (j .tube))
+unfoldable pub transomDeflection : Job → ℕ
+transomDeflection j = ceil (1000 * (transomLoad j * j .lb)) (1536 * stiffness (j .tube))
 
 -- N·mm, up
 unfoldable pub ledgerMoment : Job → ℕ
@@ -148,8 +148,8 @@ unfoldable pub ledgerLoad : Job → ℕ
 ledgerLoad j = (1146 * board (j .boards) + 1615 * j .live) * (j .la * j .la * j .la) * j .lb
 
 -- µm, up
-unfoldable pub ledgerSag : Job → ℕ
-ledgerSag j = ceil (ledgerLoad j * j .la) (4000 * stiffness (j .tube))
+unfoldable pub ledgerDeflection : Job → ℕ
+ledgerDeflection j = ceil (ledgerLoad j * j .la) (4000 * stiffness (j .tube))
 
 -- N, up
 unfoldable pub slip : Job → ℕ
@@ -202,8 +202,8 @@ unfoldable pub check8 : Pole → ℕ → Bool
 check8 p H = bends (forceWind p H) (p .moment) (p .over) (p .under) (p .area) (p .modulus)
 
 -- check 8 is not due in little wind, on an open face, with ties close together (4.3.2)
-unfoldable pub calm : Job → Bool
-calm j = both (leb (j .wind) 350) (both (eqb (j .enclosure) 1) (leb (face j) 300000))
+unfoldable pub notDue : Job → Bool
+notDue j = both (leb (j .wind) 350) (both (eqb (j .enclosure) 1) (leb (face j) 300000))
 
 unfoldable pub check9 : Job → Bool
 check9 j = leb (tieForce j) (j .capacity)
@@ -224,7 +224,7 @@ verdicts p j =
     ∷ verdict (check5 j)
     ∷ verdict (check6 j)
     ∷ verdict (check7 p (j .height))
-    ∷ pick (calm j) 0 (verdict (check8 p (j .height)))
+    ∷ pick (notDue j) 0 (verdict (check8 p (j .height)))
     ∷ verdict (check9 j)
     ∷ verdict (check10 p j)
     ∷ verdict (check11 p j)
@@ -233,11 +233,11 @@ verdicts p j =
 unfoldable pub figures : Pole → Job → List ℕ
 figures p j =
     transomMoment j
-    ∷ transomSag j
+    ∷ transomDeflection j
     ∷ ledgerMoment j
-    ∷ ledgerSag j
+    ∷ ledgerDeflection j
     ∷ slip j
-    ∷ slender j
+    ∷ slenderness j
     ∷ force p (j .height)
     ∷ forceWind p (j .height)
     ∷ tieForce j
@@ -247,11 +247,11 @@ figures p j =
 
 -- the pole checks at the height H
 unfoldable pub poles : Pole → Bool → ℕ → Bool
-poles p calm H = both (check7 p H) (either calm (check8 p H))
+poles p notDue H = both (check7 p H) (either notDue (check8 p H))
 
 -- 1 + the stability height in cm, or 0 for none
-unfoldable pub climb : Pole → Bool → ℕ
-climb p calm = top (poles p calm) 6001
+unfoldable pub heightCount : Pole → Bool → ℕ
+heightCount p notDue = top (poles p notDue) 6001
 
 -- the permitted height of a family and a stability height, cm
 unfoldable pub permitted : ℕ → ℕ → ℕ
@@ -259,36 +259,36 @@ permitted family H = min (pick (ltb H 2600) H (100000 * H / (100000 + H))) (heig
 
 -- the height of a count of heights from 0 up
 abbrev pub fromCount : ℕ → Height
-fromCount zero = Nowhere
+fromCount zero = None
 fromCount (suc H) = At H
 
 -- the permitted height of a stability height
 abbrev pub permittedOf : ℕ → Height → Height
-permittedOf family Nowhere = Nowhere
+permittedOf family None = None
 permittedOf family (At H) = At (permitted family H)
 
 -- ---- how the code finds the height: by division
 
 -- the greatest force that check 7 passes
-unfoldable pub borne : ℕ → ℕ → ℕ → ℕ
-borne o u a = o * (205 * a) / u
+unfoldable pub greatestForce : ℕ → ℕ → ℕ → ℕ
+greatestForce o u a = o * (205 * a) / u
 
 -- the greatest force that check 8 passes beside a moment m of at most f W
-unfoldable pub borneWind : ℕ → ℕ → ℕ → ℕ → ℕ → ℕ
-borneWind m o u a w = o * a * (205 * w - m) / (u * w)
+unfoldable pub greatestForceWind : ℕ → ℕ → ℕ → ℕ → ℕ → ℕ
+greatestForceWind m o u a w = o * a * (205 * w - m) / (u * w)
 
 -- how many of the heights from 0 to 6,000 cm have c + k H at most b
-unfoldable pub reach : ℕ → ℕ → ℕ → ℕ
-reach c k b = pick (leb c b) (min 6001 ((b - c) / k + 1)) 0
+unfoldable pub countUpTo : ℕ → ℕ → ℕ → ℕ
+countUpTo c k b = pick (leb c b) (min 6001 ((b - c) / k + 1)) 0
 
 -- at how many of them checks 7 and 8 pass
-unfoldable pub reach7 : Pole → ℕ
-reach7 p = reach (12 * p .fittings + 14 * p .live) (2400 * p .weight) (200000 * borne (p .over) (p .under) (p .area))
+unfoldable pub count7 : Pole → ℕ
+count7 p = countUpTo (12 * p .fittings + 14 * p .live) (2400 * p .weight) (200000 * greatestForce (p .over) (p .under) (p .area))
 
-unfoldable pub reach8 : Pole → ℕ
-reach8 p =
+unfoldable pub count8 : Pole → ℕ
+count8 p =
     pick (leb (p .moment) (205 * p .modulus))
-    (reach (120 * p .fittings + 119 * p .live) (24000 * p .weight) (2000000 * borneWind (p .moment) (p .over) (p .under) (p .area) (p .modulus)))
+    (countUpTo (120 * p .fittings + 119 * p .live) (24000 * p .weight) (2000000 * greatestForceWind (p .moment) (p .over) (p .under) (p .area) (p .modulus)))
     0
 
 -- how great the parts of an accepted job's pole are; nothing that is divided by is 0

@@ -5,7 +5,7 @@ ghost use Rattle.basis.specs.Choice.{pick};
 ghost use Rattle.basis.specs.Figure.{Is};
 ghost use Rattle.job.specs.Bounds.{Bounds};
 ghost use Rattle.section5.specs.Section5.{verdict};
-ghost use Rattle.section5.specs.Whole.{wk, deflects, check1, check2, check3, check4, check5, check6, check9, check10, check11, calm, force, forceWind, verdicts, Small};
+ghost use Rattle.section5.specs.Whole.{wk, deflects, check1, check2, check3, check4, check5, check6, check9, check10, check11, notDue, force, forceWind, verdicts, Small};
 use crate::constants::factor_of;
 use crate::constants::modulus_of;
 use crate::constants::radius_of;
@@ -32,10 +32,10 @@ fn verdict_of(pass: bool) -> u8
 }
 
 // 0 where a check is not due.
-fn due_of(calm: bool, v: u8) -> u8
-    ensures { λ r. ⌜ r ≡ pick calm 0 v ⌝ }
+fn due_of(notDue: bool, v: u8) -> u8
+    ensures { λ r. ⌜ r ≡ pick notDue 0 v ⌝ }
 {
-    if calm { 0 } else { v }
+    if notDue { 0 } else { v }
 }
 
 // The span cancels in the first comparison, which would not fit 64 bits with it.
@@ -93,9 +93,9 @@ fn check6_of(j: Job) -> u8
 
 // Check 8 is not due (4.3.2).
 // requires: judge shows the bounds by examining the job.
-pub fn calm_of(j: Job) -> bool
+pub fn not_due_of(j: Job) -> bool
     requires { ⌜ Bounds j ⌝ }
-    ensures { λ r. ⌜ r ≡ calm j ⌝ }
+    ensures { λ r. ⌜ r ≡ notDue j ⌝ }
 {
     both_of(
         j.wind <= 350,
@@ -129,8 +129,8 @@ fn check11_of(p: Pole, j: Job, n: u64) -> u8
 
 // The row of eleven, from wk, N, Nw and whether check 8 is due.
 // requires: judge shows the bounds, and hands on what it worked out of the job and its pole.
-pub fn verdicts_of(p: Pole, j: Job, w: u64, n: u64, nw: u64, quiet: bool) -> [u8; 11]
-    requires { ⌜ Small p × Bounds j × Is w (wk j) 17472 × Is n (force p (j .height)) 142000 × (nw ≡ forceWind p (j .height)) × (quiet ≡ calm j) ⌝ }
+pub fn verdicts_of(p: Pole, j: Job, w: u64, n: u64, nw: u64, exempt: bool) -> [u8; 11]
+    requires { ⌜ Small p × Bounds j × Is w (wk j) 17472 × Is n (force p (j .height)) 142000 × (nw ≡ forceWind p (j .height)) × (exempt ≡ notDue j) ⌝ }
     ensures { λ r. ⌜ r ≡ verdicts p j ⌝ }
 {
     let v1 = check1_of(j);
@@ -140,7 +140,7 @@ pub fn verdicts_of(p: Pole, j: Job, w: u64, n: u64, nw: u64, quiet: bool) -> [u8
     let v5 = check5_of(j);
     let v6 = check6_of(j);
     let v7 = verdict_of(bears_of(p, n));
-    let v8 = due_of(quiet, verdict_of(bends_of(p, nw)));
+    let v8 = due_of(exempt, verdict_of(bends_of(p, nw)));
     let v9 = check9_of(j, w);
     let v10 = check10_of(p, j, n);
     let v11 = check11_of(p, j, n);

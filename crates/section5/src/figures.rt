@@ -2,7 +2,7 @@
 ghost use mathlib.Core.Path.{_≡_};
 ghost use Rattle.basis.specs.Figure.{Is};
 ghost use Rattle.job.specs.Bounds.{Bounds};
-ghost use Rattle.section5.specs.Whole.{force, forceWind, figures, wk, mw, deck, fittings, live, slenderness, slender, transomMoment, transomLoad, transomSag, ledgerMoment, ledgerLoad, ledgerSag, slip, face, tieForce};
+ghost use Rattle.section5.specs.Whole.{force, forceWind, figures, wk, mw, deck, fittings, live, columnSlenderness, slenderness, transomMoment, transomLoad, transomDeflection, ledgerMoment, ledgerLoad, ledgerDeflection, slip, face, tieForce};
 use crate::constants::board_of;
 use crate::constants::factor_of;
 use crate::constants::overhang_of;
@@ -74,18 +74,18 @@ pub(crate) fn live_of(j: Job) -> u64
 
 // Z.
 // requires: judge shows the bounds by examining the job.
-pub fn slenderness_of(j: Job) -> u64
+pub fn column_slenderness(j: Job) -> u64
     requires { ⌜ Bounds j ⌝ }
-    ensures { λ r. ⌜ Is r (slenderness j) 293 ⌝ }
+    ensures { λ r. ⌜ Is r (columnSlenderness j) 293 ⌝ }
 {
     let step = j.step as u64;
     ceil_div(1155 * factor_of(j) * step, 1000 * radius_of(j.tube))
 }
 
 // The slenderness of check 6, up.
-fn slender_of(j: Job) -> u64
+fn slenderness_of(j: Job) -> u64
     requires { ⌜ Bounds j ⌝ }
-    ensures { λ r. ⌜ r ≡ slender j ⌝ }
+    ensures { λ r. ⌜ r ≡ slenderness j ⌝ }
 {
     let step = j.step as u64;
     ceil_div(factor_of(j) * step, radius_of(j.tube))
@@ -115,9 +115,9 @@ pub(crate) fn transom_load(j: Job) -> u64
 }
 
 // The transom's deflection, µm.
-fn transom_sag(j: Job) -> u64
+fn transom_deflection(j: Job) -> u64
     requires { ⌜ Bounds j ⌝ }
-    ensures { λ r. ⌜ r ≡ transomSag j ⌝ }
+    ensures { λ r. ⌜ r ≡ transomDeflection j ⌝ }
 {
     let lb = j.lb as u64;
     ceil_div(1000 * (transom_load(j) * lb), 1536 * stiffness_of(j.tube))
@@ -147,9 +147,9 @@ pub(crate) fn ledger_load(j: Job) -> u64
 }
 
 // The ledger's deflection, µm.
-fn ledger_sag(j: Job) -> u64
+fn ledger_deflection(j: Job) -> u64
     requires { ⌜ Bounds j ⌝ }
-    ensures { λ r. ⌜ r ≡ ledgerSag j ⌝ }
+    ensures { λ r. ⌜ r ≡ ledgerDeflection j ⌝ }
 {
     let la = j.la as u64;
     ceil_div(ledger_load(j) * la, 4000 * stiffness_of(j.tube))
@@ -196,11 +196,11 @@ pub fn figures_of(p: Pole, j: Job, w: u64, n: u64, nw: u64) -> [u64; 11]
 {
     [
         transom_moment(j),
-        transom_sag(j),
+        transom_deflection(j),
         ledger_moment(j),
-        ledger_sag(j),
+        ledger_deflection(j),
         slip_of(j),
-        slender_of(j),
+        slenderness_of(j),
         n,
         nw,
         tie_force(j, w),

@@ -8,7 +8,7 @@ use basis::least_of;
 
 // A height in cm, or none.
 pub enum Height {
-    Nowhere,
+    None,
     At(u64),
 }
 
@@ -17,7 +17,7 @@ pub fn height_of(count: u64) -> Height
     ensures { λ r. ⌜ r ≡ fromCount count ⌝ }
 {
     if count == 0 {
-        Height::Nowhere
+        Height::None
     } else {
         Height::At(count - 1)
     }
@@ -30,7 +30,7 @@ pub fn permitted_of(family: u32, count: u64) -> Height
     ensures { λ r. ⌜ r ≡ permittedOf family (fromCount count) ⌝ }
 {
     if count == 0 {
-        return Height::Nowhere;
+        return Height::None;
     }
     let h = count - 1;
     let most = choose(h < 2600, h, 100000 * h / (100000 + h));

@@ -4,7 +4,7 @@ ghost use Prim.Native.Nat.{_*_, _≤_, _<_};
 ghost use Rattle.basis.specs.Figure.{Is};
 ghost use Rattle.job.specs.Bounds.{Bounds};
 ghost use Rattle.sheet.specs.Sheet.{Stands};
-ghost use Rattle.section5.specs.Whole.{mw, slenderness, poleOf, force, forceWind, bears, bends, climb, borne, borneWind, reach, reach7, reach8, Small, IsPole};
+ghost use Rattle.section5.specs.Whole.{mw, columnSlenderness, poleOf, force, forceWind, bears, bends, heightCount, greatestForce, greatestForceWind, countUpTo, count7, count8, Small, IsPole};
 use crate::constants::area_of;
 use crate::constants::modulus_of;
 use crate::figures::fittings_of;
@@ -30,7 +30,7 @@ pub struct Pole {
 // The pole of a job under a sheet, from its slenderness and its moment.
 // requires: judge shows that the sheet stands and the bounds of the job, and hands on Z and Mw.
 pub fn pole_of(sheet: &[u16], j: Job, z: u64, m: u64) -> Pole
-    requires { ⌜ Stands (now sheet) × Bounds j × Is z (slenderness j) 293 × Is m (mw j) 17000000 ⌝ }
+    requires { ⌜ Stands (now sheet) × Bounds j × Is z (columnSlenderness j) 293 × Is m (mw j) 17000000 ⌝ }
     ensures { λ r. ⌜ IsPole r (poleOf (now (sheet .entry)) j) ⌝ }
 {
     let weight = j.weight as u64;
@@ -69,17 +69,17 @@ pub fn force_wind_of(p: Pole, h: u64) -> u64
 }
 
 // The greatest force that check 7 passes.
-fn borne_of(p: Pole) -> u64
+fn greatest_force(p: Pole) -> u64
     requires { ⌜ Small p ⌝ }
-    ensures { λ r. ⌜ Is r (borne (p .over) (p .under) (p .area)) 734000000 ⌝ }
+    ensures { λ r. ⌜ Is r (greatestForce (p .over) (p .under) (p .area)) 734000000 ⌝ }
 {
     p.over * (205 * p.area) / p.under
 }
 
 // The greatest force that check 8 passes beside the moment.
-fn borne_wind_of(p: Pole) -> u64
+fn greatest_force_wind(p: Pole) -> u64
     requires { ⌜ Small p × (p .moment ≤ 205 * p .modulus) ⌝ }
-    ensures { λ r. ⌜ Is r (borneWind (p .moment) (p .over) (p .under) (p .area) (p .modulus)) 3800000000000 ⌝ }
+    ensures { λ r. ⌜ Is r (greatestForceWind (p .moment) (p .over) (p .under) (p .area) (p .modulus)) 3800000000000 ⌝ }
 {
     p.over * p.area * (205 * p.modulus - p.moment) / (p.under * p.modulus)
 }
@@ -89,7 +89,7 @@ pub(crate) fn bears_of(p: Pole, n: u64) -> bool
     requires { ⌜ Small p ⌝ }
     ensures { λ r. ⌜ r ≡ bears n (p .over) (p .under) (p .area) ⌝ }
 {
-    n <= borne_of(p)
+    n <= greatest_force(p)
 }
 
 // Check 8 of a force.
@@ -98,16 +98,16 @@ pub(crate) fn bends_of(p: Pole, n: u64) -> bool
     ensures { λ r. ⌜ r ≡ bends n (p .moment) (p .over) (p .under) (p .area) (p .modulus) ⌝ }
 {
     if p.moment <= 205 * p.modulus {
-        n <= borne_wind_of(p)
+        n <= greatest_force_wind(p)
     } else {
         false
     }
 }
 
 // How many of the heights from 0 to 6,000 cm have c + k H at most b.
-fn reach_of(c: u64, k: u64, b: u64) -> u64
+fn count_up_to(c: u64, k: u64, b: u64) -> u64
     requires { ⌜ (0 < k) × (b ≤ 7600000000000000000) ⌝ }
-    ensures { λ r. ⌜ r ≡ reach c k b ⌝ }
+    ensures { λ r. ⌜ r ≡ countUpTo c k b ⌝ }
 {
     if c <= b {
         least_of(6001, (b - c) / k + 1)
@@ -116,26 +116,26 @@ fn reach_of(c: u64, k: u64, b: u64) -> u64
     }
 }
 
-fn reach7_of(p: Pole) -> u64
+fn count7_of(p: Pole) -> u64
     requires { ⌜ Small p ⌝ }
-    ensures { λ r. ⌜ r ≡ reach7 p ⌝ }
+    ensures { λ r. ⌜ r ≡ count7 p ⌝ }
 {
-    reach_of(
+    count_up_to(
         12 * p.fittings + 14 * p.live,
         2400 * p.weight,
-        200000 * borne_of(p),
+        200000 * greatest_force(p),
     )
 }
 
-fn reach8_of(p: Pole) -> u64
+fn count8_of(p: Pole) -> u64
     requires { ⌜ Small p ⌝ }
-    ensures { λ r. ⌜ r ≡ reach8 p ⌝ }
+    ensures { λ r. ⌜ r ≡ count8 p ⌝ }
 {
     if p.moment <= 205 * p.modulus {
-        reach_of(
+        count_up_to(
             120 * p.fittings + 119 * p.live,
             24000 * p.weight,
-            2000000 * borne_wind_of(p),
+            2000000 * greatest_force_wind(p),
         )
     } else {
         0
@@ -144,9 +144,9 @@ fn reach8_of(p: Pole) -> u64
 
 // At how many of the heights from 0 to 6,000 cm the pole checks pass.
 // requires: judge shows it of the pole of an accepted job.
-pub fn climb_of(p: Pole, calm: bool) -> u64
+pub fn height_count(p: Pole, notDue: bool) -> u64
     requires { ⌜ Small p ⌝ }
-    ensures { λ r. ⌜ Is r (climb p calm) 6001 ⌝ }
+    ensures { λ r. ⌜ Is r (heightCount p notDue) 6001 ⌝ }
 {
-    least_of(reach7_of(p), choose(calm, 6001, reach8_of(p)))
+    least_of(count7_of(p), choose(notDue, 6001, count8_of(p)))
 }

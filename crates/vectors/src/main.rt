@@ -81,14 +81,14 @@ fn numbers(record: &[u8]) -> [u32; 25] {
 // 1 where there is a height, 0 for "none".
 fn given(h: Height) -> u64 {
     match h {
-        Height::Nowhere => 0,
+        Height::None => 0,
         Height::At(_) => 1,
     }
 }
 
 fn height_of(h: Height) -> u64 {
     match h {
-        Height::Nowhere => 0,
+        Height::None => 0,
         Height::At(cm) => cm,
     }
 }

@@ -11,14 +11,14 @@ judgement-of-spec =
     (λ c. search needs)  -- cast-height
     (λ c κs. search needs)  -- wind-pressure-requires
     (λ c κs. search needs)  -- wind-moment-requires
-    (λ c κs. search needs)  -- slenderness-of-requires
-    (λ c κs. search needs)  -- calm-of-requires
+    (λ c κs. search needs)  -- column-slenderness-requires
+    (λ c κs. search needs)  -- not-due-of-requires
     (λ c κs. search needs)  -- pole-of-requires
     (λ c κs. search needs)  -- force-of-requires
     (λ c κs. search needs)  -- force-wind-of-requires
-    (λ c κs. search needs)  -- climb-of-requires
+    (λ c κs. search needs)  -- height-count-requires
     (λ c κs. search needs)  -- verdicts-of-requires
     (λ c κs. search needs)  -- figures-of-requires
     (λ c κs. search needs)  -- height-of-requires
     (λ c κs. search needs)  -- permitted-of-requires
-    (λ c. assembled _ _ (c .before .before .before .before .before .before .before .pole-of .ensures .is) (c .before .before .before .before .before .before .before .before .calm-of .ensures) (c .before .before .before .before .climb-of .ensures .is) (c .before .before .before .verdicts-of .ensures) (c .before .before .figures-of .ensures) (c .before .height-of .ensures) (c .permitted-of .ensures) (c .before .before .before .before .before .before .before .before .before .before .before .wind-pressure .ensures .is) (c .before .before .before .before .before .before .before .before .before .before .wind-moment .ensures .is) (c .before .before .before .before .before .before .before .before .before .slenderness-of .ensures .is)))  -- returns
+    (λ c. assembled _ _ (c .before .before .before .before .before .before .before .pole-of .ensures .is) (c .before .before .before .before .before .before .before .before .not-due-of .ensures) (c .before .before .before .before .height-count .ensures .is) (c .before .before .before .verdicts-of .ensures) (c .before .before .figures-of .ensures) (c .before .height-of .ensures) (c .permitted-of .ensures) (c .before .before .before .before .before .before .before .before .before .before .before .wind-pressure .ensures .is) (c .before .before .before .before .before .before .before .before .before .before .wind-moment .ensures .is) (c .before .before .before .before .before .before .before .before .before .column-slenderness .ensures .is)))  -- returns

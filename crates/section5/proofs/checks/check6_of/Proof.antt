@@ -14,7 +14,7 @@ check6-of-spec =
     (λ c. search needs)  -- cast-step
     (λ c κs. search needs)  -- factor-of-requires
     (λ c. fits-below (200 * 200) tt (search mono depth 12))  -- mul-verdict-of
-    (λ c κs. search needs)  -- slender-limit-requires
+    (λ c κs. search needs)  -- slenderness-limit-requires
     (λ c κs. search needs)  -- radius-of-requires
     (λ c. fits-below (230 * 170) tt (search mono depth 12))  -- mul-verdict-of-2
     (λ c κs. search needs)  -- verdict-of-requires

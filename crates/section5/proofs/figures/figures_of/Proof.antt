@@ -9,10 +9,10 @@ figures-of-spec =
     tie.close
     (tie.spec
     (λ c κs. search needs)  -- transom-moment-requires
-    (λ c κs. search needs)  -- transom-sag-requires
+    (λ c κs. search needs)  -- transom-deflection-requires
     (λ c κs. search needs)  -- ledger-moment-requires
-    (λ c κs. search needs)  -- ledger-sag-requires
+    (λ c κs. search needs)  -- ledger-deflection-requires
     (λ c κs. search needs)  -- slip-of-requires
-    (λ c κs. search needs)  -- slender-of-requires
+    (λ c κs. search needs)  -- slenderness-of-requires
     (λ c κs. search needs)  -- tie-force-requires
     (λ c. unfold figures in cc))  -- returns

@@ -8,5 +8,5 @@ pub bears-of-spec : {M : Type 1} → statement M
 bears-of-spec =
     tie.close
     (tie.spec
-    (λ c κs. search needs)  -- borne-of-requires
+    (λ c κs. search needs)  -- greatest-force-requires
     (λ c. cc (bears-within (c .before .args .n) (c .before .args .p) (c .before .pre))))  -- returns

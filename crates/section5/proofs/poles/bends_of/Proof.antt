@@ -9,6 +9,6 @@ bends-of-spec =
     tie.close
     (tie.spec
     (λ c. search needs)  -- mul-if1
-    (λ c κs. search needs)  -- borne-wind-of-requires
+    (λ c κs. search needs)  -- greatest-force-wind-requires
     (λ c. cc (bends-within (c .before .before .before .before .args .n) (c .before .before .before .before .args .p) (c .before .before .before .before .pre) (c .before .if1 .taken)))  -- returns
     (λ c. bends-beyond _ (c .before .before .before .args .p) (c .before .before .before .pre) (c .if1 .left)))  -- returns-2

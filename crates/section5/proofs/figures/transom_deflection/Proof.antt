@@ -1,14 +1,14 @@
--- `transom_sag` meets its contract. Assumes nothing.
+-- `transom_deflection` meets its contract. Assumes nothing.
 use Prim.Native.Nat.{_*_, _+_}
 use borrow.Author.Needs.{needs}
 use Rattle.basis.proofs.Fits.{fits-below, lt-below}
 use Rattle.basis.proofs.Order.{mono}
-use Rattle.section5.specs.Whole.{transomSag}
-use Rattle.section5.proofs.figures.transom_sag.Statement.{statement}
-use Rattle.section5.proofs.figures.transom_sag.Tie as tie
+use Rattle.section5.specs.Whole.{transomDeflection}
+use Rattle.section5.proofs.figures.transom_deflection.Statement.{statement}
+use Rattle.section5.proofs.figures.transom_deflection.Tie as tie
 
-pub transom-sag-spec : {M : Type 1} → statement M
-transom-sag-spec =
+pub transom-deflection-spec : {M : Type 1} → statement M
+transom-deflection-spec =
     tie.close
     (tie.spec
     (λ c. search needs)  -- cast-lb
@@ -18,4 +18,4 @@ transom-sag-spec =
     (λ c κs. search needs)  -- stiffness-of-requires
     (λ c. search needs)  -- mul-ceil-div-3
     (λ c κs. (search needs, lt-below (1000 * (8000000000000 * 155) + 1536 * 26944800000) tt (search mono depth 12)))  -- ceil-div-requires
-    (λ c. unfold transomSag in cc))  -- returns
+    (λ c. unfold transomDeflection in cc))  -- returns

@@ -1,14 +1,14 @@
--- `ledger_sag` meets its contract. Assumes nothing.
+-- `ledger_deflection` meets its contract. Assumes nothing.
 use Prim.Native.Nat.{_*_, _+_}
 use borrow.Author.Needs.{needs}
 use Rattle.basis.proofs.Fits.{fits-below, lt-below}
 use Rattle.basis.proofs.Order.{mono}
-use Rattle.section5.specs.Whole.{ledgerSag}
-use Rattle.section5.proofs.figures.ledger_sag.Statement.{statement}
-use Rattle.section5.proofs.figures.ledger_sag.Tie as tie
+use Rattle.section5.specs.Whole.{ledgerDeflection}
+use Rattle.section5.proofs.figures.ledger_deflection.Statement.{statement}
+use Rattle.section5.proofs.figures.ledger_deflection.Tie as tie
 
-pub ledger-sag-spec : {M : Type 1} → statement M
-ledger-sag-spec =
+pub ledger-deflection-spec : {M : Type 1} → statement M
+ledger-deflection-spec =
     tie.close
     (tie.spec
     (λ c. search needs)  -- cast-la
@@ -17,4 +17,4 @@ ledger-sag-spec =
     (λ c κs. search needs)  -- stiffness-of-requires
     (λ c. search needs)  -- mul-ceil-div-2
     (λ c κs. (search needs, lt-below (21000000000000000 * 200 + 4000 * 26944800000) tt (search mono depth 12)))  -- ceil-div-requires
-    (λ c. unfold ledgerSag in cc))  -- returns
+    (λ c. unfold ledgerDeflection in cc))  -- returns
