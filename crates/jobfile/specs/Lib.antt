@@ -1,0 +1,4 @@
+pub mod Encode
+pub mod Decode
+pub mod Read
+pub mod Write

@@ -1,0 +1,250 @@
+// Job files: the 25 numbers of a job in groups of seven bits, read (refusals 6, 7, 3, 4, 5) and written (3, 4, 5, 8).
+ghost use mathlib.Core.Path.{_≡_};
+ghost use Prim.Native.Nat.{_≤_, _^_};
+ghost use mathlib.Core.List.{_++_};
+ghost use lib.ListN.{length, drop};
+ghost use Rattle.jobfile.specs.Encode.{encode, encodeAll};
+ghost use Rattle.jobfile.specs.Decode.{Bounded, lastGroup, extend, limit, laterGroups, decode};
+ghost use Rattle.jobfile.specs.Read.{extra, numbersIn, jobIn};
+ghost use Rattle.jobfile.specs.Write.{answer, written};
+use basis::Refusal;
+use basis::first_of;
+use basis::number_of;
+use basis::refuse_unless;
+use job::Job;
+use job::examine;
+use job::from_numbers;
+use job::to_numbers;
+
+// The greatest length of an accepted job's file.
+pub const GREATEST_LENGTH: usize = 42;
+
+// A number at the front of some bytes: its value and how many bytes it takes; or none in its shortest form.
+enum Decoded {
+    Number(u64, usize),
+    Malformed,
+}
+
+// What is refused of a file's bytes (6 or 7), and its numbers: 0 for the first damaged one and those after it.
+pub struct ReadNumbers {
+    pub refusal: Refusal,
+    pub numbers: [u32; 25],
+}
+
+// The job of a file, or why it is refused.
+pub enum ReadJob {
+    Accepted(Job),
+    Refused(Refusal),
+}
+
+// The length of the file written, or why it is refused.
+pub enum Written {
+    Length(usize),
+    Refused(Refusal),
+}
+
+fn wide(b: u8) -> u64
+    ensures { λ r. ⌜ r ≡ b ⌝ }
+{
+    b as u64
+}
+
+// A last group after others is not 0: the form is the shortest.
+fn last_group(b: u64) -> Decoded
+    ensures { λ r. ⌜ r ≡ lastGroup b ⌝ }
+{
+    if b == 0 {
+        Decoded::Malformed
+    } else {
+        Decoded::Number(b, 1)
+    }
+}
+
+// One group before those that were read.
+fn extended(b: u64, later: Decoded) -> Decoded
+    requires { ⌜ Bounded (2 ^ 28) 4 later ⌝ }
+    ensures { λ r. ⌜ r ≡ extend b later ⌝ }
+{
+    match later {
+        Decoded::Number(v, k) => Decoded::Number(v * 128 + b % 128, k + 1),
+        Decoded::Malformed => Decoded::Malformed,
+    }
+}
+
+// A number of 32 bits.
+fn limited(number: Decoded) -> Decoded
+    ensures { λ r. ⌜ r ≡ limit number ⌝ }
+{
+    match number {
+        Decoded::Number(v, k) => {
+            if v < 4294967296 {
+                Decoded::Number(v, k)
+            } else {
+                Decoded::Malformed
+            }
+        }
+        Decoded::Malformed => Decoded::Malformed,
+    }
+}
+
+// The groups after the first, of which at most f stand before the last.
+fn later_groups(file: &[u8], at: usize, f: u32) -> Decoded
+    requires { ⌜ f ≤ 3 ⌝ }
+    ensures { λ r. ⌜ r ≡ laterGroups f (drop at (now (file .entry))) ⌝ }
+{
+    if file.len() <= at {
+        return Decoded::Malformed;
+    }
+    let b = wide(file[at]);
+    if b < 128 {
+        return last_group(b);
+    }
+    if f == 0 {
+        return Decoded::Malformed;
+    }
+    extended(b, later_groups(file, at + 1, f - 1))
+}
+
+// The number whose groups start at an offset.
+fn number_at(file: &[u8], at: usize) -> Decoded
+    ensures { λ r. ⌜ r ≡ decode (drop at (now (file .entry))) ⌝ }
+{
+    if file.len() <= at {
+        return Decoded::Malformed;
+    }
+    let b = wide(file[at]);
+    if b < 128 {
+        return Decoded::Number(b, 1);
+    }
+    limited(extended(b, later_groups(file, at + 1, 3)))
+}
+
+// What follows the numbers, at an offset, is refused.
+fn nothing_after(file: &[u8], at: usize) -> Refusal
+    ensures { λ r. ⌜ r ≡ extra at (drop at (now (file .entry))) ⌝ }
+{
+    refuse_unless(
+        file.len() <= at,
+        Refusal::Trailing(at as u64),
+        Refusal::Nothing,
+    )
+}
+
+// The 25 numbers of a file.
+pub fn read_numbers(file: &[u8]) -> ReadNumbers
+    ensures { λ r. ⌜ r ≡ numbersIn (now (file .entry)) ⌝ }
+{
+    let mut numbers: [u32; 25] = [0; 25];
+    let mut i: usize = 0;
+    let mut at: usize = 0;
+    while i < 25 {
+        match number_at(file, at) {
+            Decoded::Number(v, k) => {
+                numbers[i] = v as u32;
+                at += k;
+            }
+            Decoded::Malformed => {
+                return ReadNumbers {
+                    refusal: Refusal::Damaged(at as u64),
+                    numbers: numbers,
+                };
+            }
+        }
+        i += 1;
+    }
+    ReadNumbers {
+        refusal: nothing_after(file, at),
+        numbers: numbers,
+    }
+}
+
+// The job of a file.
+pub fn read(file: &[u8]) -> ReadJob
+    ensures { λ r. ⌜ r ≡ jobIn (now (file .entry)) ⌝ }
+{
+    let found = read_numbers(file);
+    let damage = found.refusal;
+    let numbers = found.numbers;
+    let j = from_numbers(numbers);
+    let refusal = first_of(damage, examine(j));
+    if number_of(refusal) == 0 {
+        ReadJob::Accepted(j)
+    } else {
+        ReadJob::Refused(refusal)
+    }
+}
+
+// The number of a number's groups.
+fn encoded_length(n: u32) -> usize
+    ensures { λ r. ⌜ (r ≡ length (encode n)) × (r ≤ 5) ⌝ }
+{
+    let mut x = n;
+    let mut k: usize = 1;
+    while 128 <= x {
+        x = x / 128;
+        k += 1;
+    }
+    k
+}
+
+// The length of the file of 25 numbers.
+fn file_length(numbers: [u32; 25]) -> usize
+    ensures { λ r. ⌜ r ≡ length (encodeAll numbers) ⌝ }
+{
+    let mut i: usize = 0;
+    let mut n: usize = 0;
+    while i < 25 {
+        n += encoded_length(numbers[i]);
+        i += 1;
+    }
+    n
+}
+
+// Writes a number's groups at the front of a buffer that has room for them, and gives their number.
+fn write_number(out: &mut [u8], n: u32) -> usize
+    requires { ⌜ length (encode n) ≤ length (now out) ⌝ }
+    ensures { λ r. ⌜ (r ≡ length (encode n)) × (now (out .exit) ≡ encode n ++ drop (length (encode n)) (now (out .entry))) ⌝ }
+{
+    let mut x = n;
+    let mut k: usize = 0;
+    while 128 <= x {
+        out[k] = (x % 128 + 128) as u8;
+        x = x / 128;
+        k += 1;
+    }
+    out[k] = x as u8;
+    k + 1
+}
+
+// Writes 25 numbers, each into what is left of the buffer after the one before, and gives the file's length.
+fn write_numbers(out: &mut [u8], numbers: [u32; 25]) -> usize
+    requires { ⌜ length (encodeAll numbers) ≤ length (now out) ⌝ }
+    ensures { λ r. ⌜ (r ≡ length (encodeAll numbers)) × (now (out .exit) ≡ encodeAll numbers ++ drop (length (encodeAll numbers)) (now (out .entry))) ⌝ }
+{
+    let mut i: usize = 0;
+    let mut at: usize = 0;
+    while i < 25 {
+        at += write_number(&mut out[at..], numbers[i]);
+        i += 1;
+    }
+    at
+}
+
+// Writes the file of a job at the front of a buffer, which stays as it is where the job is refused or does not fit.
+pub fn write(j: Job, out: &mut [u8]) -> Written
+    ensures { λ r. ⌜ (r ≡ answer j (now (out .entry))) × (now (out .exit) ≡ written j (now (out .entry))) ⌝ }
+{
+    let numbers = to_numbers(j);
+    let needed = file_length(numbers);
+    let room = out.len();
+    let short = refuse_unless(
+        needed <= room,
+        Refusal::TooShort(needed as u64),
+        Refusal::Nothing,
+    );
+    let refusal = first_of(examine(j), short);
+    if number_of(refusal) != 0 {
+        return Written::Refused(refusal);
+    }
+    Written::Length(write_numbers(out, numbers))
+}
