@@ -60,6 +60,18 @@ unfolding groups
 groups-few zero n = omega arith
 groups-few (suc f) n = cases (ltb n 128) (λ t. simp t (omega arith)) (λ t. simp t (omega (arith, groups-few f (n / 128))))
 
+-- a number that f groups before the last can hold has no more of them
+groups-short : (g f n : ℕ) → n < cap f → length (groups g n) ≤ suc f
+unfolding groups cap
+groups-short zero f n h = omega arith
+groups-short (suc g) zero n h = simp (lt-ltb n 128 h) (omega arith)
+groups-short (suc g) (suc f) n h =
+    cases (ltb n 128) (λ t. simp t (omega arith)) (λ t. simp t (omega (arith, groups-short g f (n / 128) (omega arith))))
+
+pub encode-short : (f n : ℕ) → n < cap f → length (encode n) ≤ suc f
+unfolding encode
+encode-short f n h = groups-short 4 f n h
+
 -- at most five groups
 pub encode-few : (n : ℕ) → length (encode n) ≤ 5
 unfolding encode

@@ -3,3 +3,7 @@ pub mod Front
 pub mod Decode
 pub mod Reading
 pub mod Writing
+pub mod Numbers
+pub mod Sizes
+pub mod Files
+pub mod RoundTrip

@@ -41,7 +41,7 @@ pub damage-here : (n at : ℕ) (bs : List ℕ) → decode bs ≡ Malformed → d
 unfolding damage
 damage-here n at bs e = rw (e, damage) refl
 
-values-here : (n : ℕ) (bs : List ℕ) → decode bs ≡ Malformed → values (suc n) bs ≡ replicate (suc n) 0
+pub values-here : (n : ℕ) (bs : List ℕ) → decode bs ≡ Malformed → values (suc n) bs ≡ replicate (suc n) 0
 unfolding values
 values-here n bs e = rw (e, values) refl
 

@@ -2,3 +2,5 @@ pub mod Encode
 pub mod Decode
 pub mod Read
 pub mod Write
+pub mod RoundTrip
+pub mod Marked

@@ -1,0 +1,46 @@
+-- The marked cases of document 01 on job files, and the greatest length reached.
+-- Assumes nothing.
+use Prim.Native.Nat.{ℕ}
+use mathlib.Core.Path.{refl}
+use mathlib.Core.List.{List, [], _∷_}
+use lib.ListN.{length}
+use Rattle.basis.specs.Choice.{both, either}
+use Rattle.basis.specs.Marked.{Row, row, Hold}
+use Rattle.basis.specs.Refusal.{number, place, first}
+use Rattle.job.specs.declared.Job.{Job}
+use Rattle.job.specs.Job.{jobOf, numbers}
+use Rattle.job.specs.Ranges.{field, lbStands, heightStands, shieldStands, geometry, loads, wind, ground, outside}
+use Rattle.job.specs.Examine.{examination}
+use Rattle.jobfile.specs.Encode.{groups, encode, encodeAll}
+use Rattle.jobfile.specs.Decode.{lastGroup, extend, laterGroups, limit, decode}
+use Rattle.jobfile.specs.Read.{extra, damage, values, readRefusal}
+use Rattle.jobfile.specs.Write.{fileOf, greatestLength}
+
+-- the number and the place of what is refused of a file
+unfoldable pub refusedOf : List ℕ → List ℕ
+refusedOf file = number (readRefusal file) ∷ place (readRefusal file) ∷ []
+
+-- a job each of whose numbers is the greatest of its range
+unfoldable pub longest : Job
+longest =
+    jobOf
+    (1 ∷ 2 ∷ 155 ∷ 200 ∷ 200 ∷ 3 ∷ 5000 ∷ 3 ∷ 10 ∷ 9 ∷ 10000 ∷ 30000 ∷ 5000 ∷ 500 ∷ 2000 ∷ 4000 ∷ 1 ∷ 2000 ∷ 2 ∷ 2000 ∷ 3 ∷ 100000 ∷ 5 ∷ 2000 ∷ 10000 ∷ [])
+
+unfoldable pub rows : List Row
+rows =
+    row (encode 127) (127 ∷ [])  -- 7F
+    ∷ row (encode 128) (128 ∷ 1 ∷ [])  -- 80 01
+    ∷ row (encode 4294967295) (255 ∷ 255 ∷ 255 ∷ 255 ∷ 15 ∷ [])  -- FF FF FF FF 0F
+    ∷ row (refusedOf (128 ∷ 0 ∷ [])) (6 ∷ 0 ∷ [])  -- 80 00
+    -- 80 00 for the 13th number of job J, which is 0
+    ∷ row
+    (refusedOf
+    (1 ∷ 1 ∷ 105 ∷ 150 ∷ 1 ∷ 180 ∷ 1 ∷ 2 ∷ 184 ∷ 23 ∷ 3 ∷ 4 ∷ 2 ∷ 184 ∷ 23 ∷ 136 ∷ 39 ∷ 128 ∷ 0 ∷ 172 ∷ 2 ∷ 172 ∷ 2 ∷ 232 ∷ 7 ∷ 1 ∷ 200 ∷ 1 ∷ 1 ∷ 240 ∷ 1 ∷ 1 ∷ 192 ∷ 62 ∷ 4 ∷ 200 ∷ 1 ∷ 208 ∷ 15 ∷ []))
+    (6 ∷ 17 ∷ [])
+    -- nothing is refused of the longest job, and its file has the greatest length
+    ∷ row (number (examination longest) ∷ length (fileOf longest) ∷ []) (0 ∷ greatestLength ∷ [])
+    ∷ []
+
+pub marked : Hold rows
+unfolding rows refusedOf longest encode groups readRefusal damage values extra decode laterGroups lastGroup extend limit fileOf encodeAll jobOf numbers examination outside geometry loads wind ground field lbStands heightStands shieldStands both either first
+marked = refl
