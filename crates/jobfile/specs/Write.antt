@@ -28,9 +28,13 @@ unfoldable pub writeRefusal : Job → ℕ → Refusal
 unfolding fileOf
 writeRefusal j room = first (examination j) (unless (leb (length (fileOf j)) room) (TooShort (length (fileOf j))) Nothing)
 
+-- the length of the file where nothing is refused, else the refusal
+unfoldable pub writtenOr : Refusal → ℕ → Written
+writtenOr refusal length = pick (eqb (number refusal) 0) (Length length) (Refused refusal)
+
 unfoldable pub answer : Job → List ℕ → Written
-unfolding fileOf writeRefusal
-answer j out = pick (eqb (number (writeRefusal j (length out))) 0) (Length (length (fileOf j))) (Refused (writeRefusal j (length out)))
+unfolding fileOf writeRefusal writtenOr
+answer j out = writtenOr (writeRefusal j (length out)) (length (fileOf j))
 
 -- the buffer afterwards: as it was where the answer is a refusal, else only the file's own length is written
 unfoldable pub written : Job → List ℕ → List ℕ

@@ -6,7 +6,7 @@ ghost use lib.ListN.{length, drop};
 ghost use Rattle.jobfile.specs.Encode.{encode, encodeAll};
 ghost use Rattle.jobfile.specs.Decode.{Bounded, lastGroup, extend, limit, laterGroups, decode};
 ghost use Rattle.jobfile.specs.Read.{extra, numbersIn, jobIn};
-ghost use Rattle.jobfile.specs.Write.{answer, written};
+ghost use Rattle.jobfile.specs.Write.{greatestLength, writtenOr, answer, written};
 use basis::Refusal;
 use basis::first_of;
 use basis::number_of;
@@ -16,8 +16,15 @@ use job::examine;
 use job::from_numbers;
 use job::to_numbers;
 
-// The greatest length of an accepted job's file.
+// The greatest length of an accepted job's file: a buffer of that length has room for each.
 pub const GREATEST_LENGTH: usize = 42;
+
+// The same, by a call.
+pub fn greatest_length() -> usize
+    ensures { λ r. ⌜ r ≡ greatestLength ⌝ }
+{
+    GREATEST_LENGTH
+}
 
 // A number at the front of some bytes: its value and how many bytes it takes; or none in its shortest form.
 enum Decoded {
@@ -216,10 +223,10 @@ fn write_number(out: &mut [u8], n: u32) -> usize
     k + 1
 }
 
-// Writes 25 numbers, each into what is left of the buffer after the one before, and gives the file's length.
-fn write_numbers(out: &mut [u8], numbers: [u32; 25]) -> usize
+// Writes 25 numbers, each into what is left of the buffer after the one before.
+fn write_numbers(out: &mut [u8], numbers: [u32; 25])
     requires { ⌜ length (encodeAll numbers) ≤ length (now out) ⌝ }
-    ensures { λ r. ⌜ (r ≡ length (encodeAll numbers)) × (now (out .exit) ≡ encodeAll numbers ++ drop (length (encodeAll numbers)) (now (out .entry))) ⌝ }
+    ensures { λ _. ⌜ now (out .exit) ≡ encodeAll numbers ++ drop (length (encodeAll numbers)) (now (out .entry)) ⌝ }
 {
     let mut i: usize = 0;
     let mut at: usize = 0;
@@ -227,7 +234,17 @@ fn write_numbers(out: &mut [u8], numbers: [u32; 25]) -> usize
         at += write_number(&mut out[at..], numbers[i]);
         i += 1;
     }
-    at
+}
+
+// The length of the file where nothing was refused, else the refusal.
+fn answer_of(refusal: Refusal, length: usize) -> Written
+    ensures { λ r. ⌜ r ≡ writtenOr refusal length ⌝ }
+{
+    if number_of(refusal) == 0 {
+        Written::Length(length)
+    } else {
+        Written::Refused(refusal)
+    }
 }
 
 // Writes the file of a job at the front of a buffer, which stays as it is where the job is refused or does not fit.
@@ -243,8 +260,8 @@ pub fn write(j: Job, out: &mut [u8]) -> Written
         Refusal::Nothing,
     );
     let refusal = first_of(examine(j), short);
-    if number_of(refusal) != 0 {
-        return Written::Refused(refusal);
+    if number_of(refusal) == 0 {
+        write_numbers(out, numbers);
     }
-    Written::Length(write_numbers(out, numbers))
+    answer_of(refusal, needed)
 }

@@ -1,18 +1,34 @@
--- `write` meets its contract. Assumes nothing.
+-- `write` meets its contract: the buffer by its two ways, written and refused. Assumes nothing.
 use mathlib.Core.Path.{_≡_, sym, ap, _∙_}
+use mathlib.Core.Logic.{⊎-elim}
 use denote.Ref.{now}
 use lib.ListN.{length}
 use borrow.Author.Needs.{needs}
-use Rattle.jobfile.specs.Write.{fileOf, writeRefusal}
-use Rattle.jobfile.specs.declared.Written.the-variants.{Length}
-use Rattle.jobfile.proofs.Writing.{file-is, write-refused, write-done, write-fits}
+use Rattle.jobfile.specs.Encode.{encodeAll}
+use Rattle.jobfile.specs.Write.{fileOf, writeRefusal, written}
+use Rattle.jobfile.proofs.Writing.{file-is, write-refused, write-done, write-fits, written-length, answer-is}
 use Rattle.jobfile.proofs.write.Statement.{statement}
 use Rattle.jobfile.proofs.write.Tie as tie
 
+abbrev start : tie.After-number-of → tie.Start
+start c = c .before .before .before .before .before .before .before
+
 -- the refusal worked out is that of the job and the buffer
-refusal-is : (c : tie.After-first-of) → c .first-of .result ≡ writeRefusal (c .before .before .before .before .before .before .args .j) (length (now (c .before .before .before .before .before .before .args .out)))
+refusal-is : (c : tie.After-number-of) → c .before .first-of .result ≡ writeRefusal (start c .args .j) (length (now (start c .args .out)))
 unfolding writeRefusal fileOf
 refusal-is c = cc
+
+-- the numbers written are those of the job's file
+numbers-are : (c : tie.After-number-of) → encodeAll (c .before .before .before .before .before .to-numbers .result) ≡ fileOf (start c .args .j)
+numbers-are c = file-is _ (c .before .before .before .before .before .to-numbers .ensures)
+
+buffer-is : (c : tie.Joined1) → c .if1 .out ≡ written (start (c .before) .args .j) (now (start (c .before) .args .out))
+buffer-is c =
+    let n = c .before in
+    ⊎-elim
+    (λ w. w .5 ∙ (rw (numbers-are n) at (w .2 .ensures)) ∙ write-done _ _ _ (refusal-is n) (sym (n .number-of .ensures) ∙ w .0 .taken) .1)
+    (λ w. w .1 ∙ write-refused _ _ _ (refusal-is n) (λ e. w .0 .left (n .number-of .ensures ∙ e)) .1)
+    (c .if1 .came)
 
 pub write-spec : {M : Type 1} → statement M
 write-spec =
@@ -24,15 +40,12 @@ write-spec =
     (λ c κs. search needs)  -- examine-requires
     (λ c κs. search needs)  -- first-of-requires
     (λ c κs. search needs)  -- number-of-requires
-    (λ c. write-refused _ _ _ (refusal-is (c .before .before)) (λ z. c .if1 .taken (c .before .number-of .ensures ∙ z)))  -- returns
     (λ c κs.
     let n = c .before .before in
-    let f = file-is _ (n .before .before .before .before .before .to-numbers .ensures) in
-    rw f (write-fits _ (now (n .before .before .before .before .before .before .before .args .out)) _ (refusal-is (n .before)) (sym (n .number-of .ensures) ∙ c .before .if1 .left) .1))  -- write-numbers-requires
-    (λ c. search needs)  -- same-length
+    rw (numbers-are n) (write-fits _ (now (start n .args .out)) _ (refusal-is n) (sym (n .number-of .ensures) ∙ c .before .if1 .taken) .1))  -- write-numbers-requires
+    (λ c κs. search needs)  -- answer-of-requires
+    (λ c. ap length (buffer-is (c .before)) ∙ written-length _ _)  -- same-length
     (λ c.
-    let n = c .before .before .before .before .before in
-    let f = file-is _ (n .before .before .before .before .before .to-numbers .ensures) in
-    let w = write-done _ _ _ (refusal-is (n .before)) (sym (n .number-of .ensures) ∙ c .before .before .before .before .if1 .left) in
-    let g = rw f at (c .before .before .write-numbers .ensures) in
-    (ap Length (g .0) ∙ w .0, g .1 ∙ w .1)))  -- returns-2
+    let n = c .before .before in
+    let l = n .before .before .before .before .file-length .ensures ∙ ap length (numbers-are n) in
+    (c .answer-of .ensures ∙ answer-is _ _ (refusal-is n) l, buffer-is (c .before))))  -- returns

@@ -73,4 +73,4 @@ write-numbers-spec =
     let l = c .before .loop in
     let e = ap length (l .inv .1 ∙ all-end (a .args .t2) (l .i) (omega (arith, count a))) in
     let z : l .at ≡ length (encodeAll (a .args .t2)) = omega (arith, length-drop (l .at) (encodeAll (a .args .t2)), e) in
-    (z, l .inv .3 ∙ front-all (a .args .out .now) (encodeAll (a .args .t2)) _ z)))  -- returns
+    l .inv .3 ∙ front-all (a .args .out .now) (encodeAll (a .args .t2)) _ z))  -- returns
