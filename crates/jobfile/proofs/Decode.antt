@@ -2,6 +2,7 @@
 -- Assumes nothing.
 use Prim.Native.Nat.{ℕ, zero, suc, _+_, _-_, _*_, _^_, _≤_, _<_}
 use mathlib.Core.Path.{_≡_, subst}
+use mathlib.Core.Bool.{Bool, true, false}
 use mathlib.Core.List.{List, [], _∷_}
 use native.Mathlib.Numerals.{add-one}
 use native.Mathlib.Omega.{arith}
@@ -66,10 +67,14 @@ unfolding cap
 cap-least zero = omega arith
 cap-least (suc f) = omega (arith, cap-least f)
 
+last-bounded : (f b : ℕ) (e : Bool) → b < 128 → Bounded (cap f) (suc f) (pick e Malformed (Number b 1))
+last-bounded f b true h = tt
+last-bounded f b false h = record { value = omega (arith, cap-least f); count = omega arith }
+
 -- a last group, where the first byte has no top bit, else what the later groups give
 first-bounded : (f b : ℕ) (q : Decoded) → Bounded (cap f) (suc f) q → Bounded (cap f) (suc f) (pick (ltb b 128) (lastGroup b) q)
 unfolding lastGroup
-first-bounded f b q w = cases (ltb b 128) (λ t. rw t (cases (eqb b 0) (λ u. rw u tt) (λ u. rw u (record { value = omega (arith, cap-least f, ltb-true b 128 t); count = omega arith })))) (λ t. rw t w)
+first-bounded f b q w = cases (ltb b 128) (λ t. rw t (last-bounded f b (eqb b 0) (ltb-true b 128 t))) (λ t. rw t w)
 
 later-bounded : (f : ℕ) (bs : List ℕ) → Bounded (cap f) (suc f) (laterGroups f bs)
 unfolding laterGroups cap

@@ -183,7 +183,7 @@ pub fn read(file: &[u8]) -> ReadJob
 
 // The number of a number's groups.
 fn encoded_length(n: u32) -> usize
-    ensures { λ r. ⌜ (r ≡ length (encode n)) × (r ≤ 5) ⌝ }
+    ensures { λ r. ⌜ r ≡ length (encode n) ⌝ }
 {
     let mut x = n;
     let mut k: usize = 1;
@@ -228,11 +228,11 @@ fn write_numbers(out: &mut [u8], numbers: [u32; 25])
     requires { ⌜ length (encodeAll numbers) ≤ length (now out) ⌝ }
     ensures { λ _. ⌜ now (out .exit) ≡ encodeAll numbers ++ drop (length (encodeAll numbers)) (now (out .entry)) ⌝ }
 {
-    let mut i: usize = 0;
+    let mut done: usize = 0;
     let mut at: usize = 0;
-    while i < 25 {
-        at += write_number(&mut out[at..], numbers[i]);
-        i += 1;
+    while done < 25 {
+        at += write_number(&mut out[at..], numbers[done]);
+        done += 1;
     }
 }
 
@@ -259,9 +259,9 @@ pub fn write(j: Job, out: &mut [u8]) -> Written
         Refusal::TooShort(needed as u64),
         Refusal::Nothing,
     );
-    let refusal = first_of(examine(j), short);
-    if number_of(refusal) == 0 {
+    let refused = first_of(examine(j), short);
+    if number_of(refused) == 0 {
         write_numbers(out, numbers);
     }
-    answer_of(refusal, needed)
+    answer_of(refused, needed)
 }

@@ -24,4 +24,4 @@ encoded-length-spec =
     (λ c. omega (arith, encode-few (c .before .before .args .n)))  -- add-k
     (λ c. omega arith)  -- loop-less
     (λ c. omega (arith, ap length (encode-more _ (c .before .loop .inv .1) (c .loop-test .taken))))  -- loop-again
-    (λ c. omega (arith, ap length (encode-one (c .before .loop .x) (c .loop-test .left)), encode-few (c .before .before .args .n))))  -- returns
+    (λ c. omega (arith, ap length (encode-one (c .before .loop .x) (c .loop-test .left)))))  -- returns

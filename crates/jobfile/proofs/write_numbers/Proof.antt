@@ -1,4 +1,4 @@
--- `write_numbers` meets its contract. The invariant: the first `at` bytes are the first of the file, and those of the numbers from i on are left. Assumes nothing.
+-- `write_numbers` meets its contract. The invariant: the first `at` bytes are the first of the file, and those of the numbers from `done` on are left. Assumes nothing.
 use Prim.Native.Nat.{suc, _≤_, _+_, _-_}
 use mathlib.Core.Path.{_≡_, _∙_, refl, ap}
 use mathlib.Core.List.{_++_}
@@ -13,11 +13,11 @@ use Rattle.jobfile.proofs.write_numbers.Statement.{statement}
 use Rattle.jobfile.proofs.write_numbers.Tie as tie
 
 abbrev Inv-loop : tie.InvT-loop
-Inv-loop out₀ numbers i₀ at₀ out i at =
-    (i ≤ 25) × (drop at (encodeAll numbers) ≡ encodeAll (drop i numbers)) × (at ≤ length (encodeAll numbers)) × (out ≡ front out₀ (encodeAll numbers) at)
+Inv-loop out₀ numbers done₀ at₀ out done at =
+    (done ≤ 25) × (drop at (encodeAll numbers) ≡ encodeAll (drop done numbers)) × (at ≤ length (encodeAll numbers)) × (out ≡ front out₀ (encodeAll numbers) at)
 
 abbrev μ-loop : tie.MeasureT-loop
-μ-loop out₀ numbers i₀ at₀ out i at = 25 - i
+μ-loop out₀ numbers done₀ at₀ out done at = 25 - done
 
 count : (c : tie.Start Inv-loop μ-loop) → length (c .args .t2) ≡ 25
 count c = search needs
@@ -32,14 +32,14 @@ same c =
 next : (c : tie.In-loop Inv-loop μ-loop) → (
     let a = c .before .before .before .args in
     let l = c .before .loop in
-    let t = encode (getD (a .t2) (l .i) 0) in
-    let u = encodeAll (drop (suc (l .i)) (a .t2)) in
+    let t = encode (getD (a .t2) (l .done) 0) in
+    let u = encodeAll (drop (suc (l .done)) (a .t2)) in
     (drop (l .at) (encodeAll (a .t2)) ≡ t ++ u) × (drop (l .at + length t) (encodeAll (a .t2)) ≡ u) × (l .at + length t ≤ length (encodeAll (a .t2))))
 next c =
     let s = c .before .before .before in
     let l = c .before .loop in
-    let e = l .inv .1 ∙ all-cons (s .args .t2) (l .i) (omega (arith, count s)) in
-    let f = front-next _ (encode (getD (s .args .t2) (l .i) 0)) _ (l .at) (l .inv .2) e in
+    let e = l .inv .1 ∙ all-cons (s .args .t2) (l .done) (omega (arith, count s)) in
+    let f = front-next _ (encode (getD (s .args .t2) (l .done) 0)) _ (l .at) (l .inv .2) e in
     (e, f .0, f .1)
 
 pub write-numbers-spec : {M : Type 1} → statement M
@@ -58,7 +58,7 @@ write-numbers-spec =
     (λ c.
     let d = c .before .before .before .before in
     omega (arith, c .before .before .write-number .ensures .0, next d .2, all-few (d .before .before .before .args .t2), count (d .before .before .before)))  -- add-at
-    (λ c. search needs)  -- add-i
+    (λ c. search needs)  -- add-done
     (λ c. search needs)  -- loop-less
     (λ c.
     let d = c .before .before .before .before in
@@ -66,11 +66,11 @@ write-numbers-spec =
     let l = d .before .loop in
     let g = c .before .before .write-number .ensures in
     let n = next d in
-    (omega arith, rw (g .0, add-one) (n .1), omega (arith, g .0, n .2), rw (g .0, g .1) (front-part _ _ (encode (getD (s .args .t2) (l .i) 0)) (encodeAll (drop (suc (l .i)) (s .args .t2))) _ _ (l .inv .2) (s .pre) (l .inv .3) (n .0))))  -- loop-again
+    (omega arith, rw (g .0, add-one) (n .1), omega (arith, g .0, n .2), rw (g .0, g .1) (front-part _ _ (encode (getD (s .args .t2) (l .done) 0)) (encodeAll (drop (suc (l .done)) (s .args .t2))) _ _ (l .inv .2) (s .pre) (l .inv .3) (n .0))))  -- loop-again
     (λ c. same (c .before))  -- same-length
     (λ c.
     let a = c .before .before .before in
     let l = c .before .loop in
-    let e = ap length (l .inv .1 ∙ all-end (a .args .t2) (l .i) (omega (arith, count a))) in
+    let e = ap length (l .inv .1 ∙ all-end (a .args .t2) (l .done) (omega (arith, count a))) in
     let z : l .at ≡ length (encodeAll (a .args .t2)) = omega (arith, length-drop (l .at) (encodeAll (a .args .t2)), e) in
     l .inv .3 ∙ front-all (a .args .out .now) (encodeAll (a .args .t2)) _ z))  -- returns
