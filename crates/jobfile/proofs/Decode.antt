@@ -83,7 +83,7 @@ later-bounded (suc f) [] = tt
 later-bounded zero (b ∷ bs) = first-bounded zero b Malformed tt
 later-bounded (suc f) (b ∷ bs) = first-bounded (suc f) b (extend b (laterGroups f bs)) (extend-bounded (cap f) (suc f) b (laterGroups f bs) (later-bounded f bs))
 
-pub cap-most : (f : ℕ) → f ≤ 3 → cap f ≤ 2 ^ 28
+cap-most : (f : ℕ) → f ≤ 3 → cap f ≤ 2 ^ 28
 unfolding cap
 cap-most zero h = omega arith
 cap-most (suc zero) h = omega arith

@@ -5,6 +5,7 @@ use mathlib.Core.Path.{_≡_, refl}
 use mathlib.Core.List.{List, [], _∷_, _++_}
 use mathlib.Core.Bool.{false}
 use native.Mathlib.Numerals.{add-one}
+use native.Mathlib.Nat.{pos-of-ne-zero}
 use native.Mathlib.Omega.{arith}
 use lib.Dec.{ltb, eqb}
 use lib.ListN.{length, take}
@@ -62,13 +63,9 @@ one-group f b v k bs h e =
     let k₁ : 1 ≡ k = cc in
     rw (← k₁, ← bv, groups-one f b h)
 
-positive : (n : ℕ) → (n ≡ 0 → ⊥) → 0 < n
-positive zero h = absurd (h refl)
-positive (suc n) h = omega arith
-
 read-last : (f b v k : ℕ) (bs : List ℕ) → b < 128 → lastGroup b ≡ Number v k → Read f v k (b ∷ bs)
 unfolding lastGroup
-read-last f b v k bs h e = cases (eqb b 0) (λ t. differ (rw t at e)) (λ t. found (positive b (eqb-false b 0 t)) (rw t at e))
+read-last f b v k bs h e = cases (eqb b 0) (λ t. differ (rw t at e)) (λ t. found (pos-of-ne-zero (eqb-false b 0 t)) (rw t at e))
   where
     found : 0 < b → Number b 1 ≡ Number v k → Read f v k (b ∷ bs)
     found p e = let bv : b ≡ v = cc in record { same = one-group f b v k bs h e; above = rw bv at p }

@@ -5,10 +5,10 @@ use mathlib.Core.Path.{_≡_, _∙_, refl, sym}
 use mathlib.Core.List.{List, _∷_, _++_, append-nil, append-assoc}
 use native.Mathlib.Numerals.{add-one}
 use native.Mathlib.Omega.{arith}
-use lib.Dec.{leb}
+use lib.Dec.{leb, eqb}
 use lib.ListN.{length, take, drop, set, getD, replicate, length-set, take-append-drop, drop-of-length-le}
 use lib.Seq.{drop-cons, drop-drop, drop-set-lt, take-suc-set, take-all}
-use borrow.Author.Tests.{leb-true, leb-false, eq-eqb, ne-eqb}
+use borrow.Author.Tests.{leb-true, leb-false, eq-eqb, ne-eqb, eqb-true}
 use Rattle.basis.specs.Refusal.{number, unless, first}
 use Rattle.basis.specs.declared.Refusal.{Refusal}
 use Rattle.basis.specs.declared.Refusal.the-variants.{Nothing, Damaged, Trailing}
@@ -102,6 +102,9 @@ module _ (file : List ℕ) (n : ReadNumbers) (j : Job) (e : n ≡ numbersIn file
   unfolding numbersIn readRefusal
   read-refusal g h = h ∙ rw (g, read-job, e)
 
+pub refused-accepted : {A : Type 0} {r : Refusal} {j : Job} → Refused r ≡ Accepted j → A
+refused-accepted e = let z : _≡_ {A = ℕ} 0 1 = cc in absurd (omega arith)
+
 module _ (file : List ℕ) (r : Refusal) (e : r ≡ readRefusal file) where
   pub read-refused : (number r ≡ 0 → ⊥) → Refused r ≡ jobIn file
   unfolding jobIn
@@ -110,3 +113,11 @@ module _ (file : List ℕ) (r : Refusal) (e : r ≡ readRefusal file) where
   pub read-done : number r ≡ 0 → Accepted (jobOf (values 25 file)) ≡ jobIn file
   unfolding jobIn
   read-done h = rw (← e) (simp (eq-eqb (number r) 0 h))
+
+-- a file that reads as a job: nothing of it is refused, and the job is that of its numbers
+pub read-accepted : (file : List ℕ) (j : Job) → jobIn file ≡ Accepted j → (number (readRefusal file) ≡ 0) × (jobOf (values 25 file) ≡ j)
+unfolding jobIn
+read-accepted file j e =
+    cases (eqb (number (readRefusal file)) 0)
+    (λ t. let a : Accepted (jobOf (values 25 file)) ≡ Accepted j = rw t at e in (eqb-true _ 0 t, cc))
+    (λ t. refused-accepted (rw t at e))

@@ -5,16 +5,14 @@ use mathlib.Core.Path.{_≡_, _∙_, refl, sym, ap}
 use mathlib.Core.List.{List, [], _∷_, _++_, append-nil}
 use native.Mathlib.Nat.{zero-add, le-trans}
 use native.Mathlib.Omega.{arith}
-use lib.Dec.{eqb}
 use lib.ListN.{length, take, drop}
 use lib.Seq.{take-append-seam}
-use borrow.Author.Tests.{eqb-true, eqb-false, le-leb}
-use Rattle.basis.specs.Refusal.{number, first}
+use borrow.Author.Tests.{le-leb}
+use Rattle.basis.specs.Refusal.{first}
 use Rattle.basis.specs.declared.Refusal.the-variants.{Nothing, Trailing}
-use Rattle.basis.proofs.Tests.{cases}
 use Rattle.basis.proofs.Refusals.{nothing, first-nothing}
 use Rattle.job.specs.declared.Job.{Job}
-use Rattle.job.specs.Job.{jobOf, numbers}
+use Rattle.job.specs.Job.{numbers}
 use Rattle.job.specs.Examine.{Stands}
 use Rattle.job.proofs.Numbers.{job-numbers, numbers-job, numbers-long}
 use Rattle.jobfile.specs.Read.{extra, values, readRefusal, jobIn}
@@ -23,8 +21,8 @@ use Rattle.jobfile.specs.RoundTrip.{Bytes, RoundTrip}
 use Rattle.jobfile.specs.declared.ReadJob.the-variants.{Accepted, Refused}
 use Rattle.jobfile.specs.declared.Written.the-variants.{Length}
 use Rattle.jobfile.proofs.Files.{damage-back, values-back, values-long, all-read}
-use Rattle.jobfile.proofs.Reading.{read-refused, read-done}
-use Rattle.jobfile.proofs.Writing.{write-refused, write-done, write-fits}
+use Rattle.jobfile.proofs.Reading.{refused-accepted, read-refused, read-done, read-accepted}
+use Rattle.jobfile.proofs.Writing.{write-done, write-fits, write-length}
 use Rattle.jobfile.proofs.Sizes.{file-short, job-narrow}
 
 module _ (j : Job) (h : Stands j) (rest : List ℕ) where
@@ -49,36 +47,15 @@ extra-refused j b bs h = sym (read-refused (fileOf j ++ b ∷ bs) (Trailing (len
 
 file-back : (file : List ℕ) (j : Job) → Bytes file → jobIn file ≡ Accepted j → (fileOf j ≡ file) × Stands j
 unfolding fileOf readRefusal Stands
-file-back file j w e = cases (eqb (number (readRefusal file)) 0) (λ t. whole (eqb-true _ 0 t)) (λ t. refused (eqb-false _ 0 t))
-  where
-    whole : number (readRefusal file) ≡ 0 → (fileOf j ≡ file) × Stands j
-    whole z =
-        let n = first-nothing _ _ (nothing _ z) in
-        let a : Accepted (jobOf (values 25 file)) ≡ Accepted j = read-done file _ refl z ∙ e in
-        let q : jobOf (values 25 file) ≡ j = cc in
-        rw (← q) (rw (numbers-job (values 25 file) (values-long 25 file)) (all-read 25 0 file w (n .0)), n .1)
-
-    refused : (number (readRefusal file) ≡ 0 → ⊥) → (fileOf j ≡ file) × Stands j
-    refused z =
-        let a : Refused (readRefusal file) ≡ Accepted j = read-refused file _ refl z ∙ e in
-        let c : _≡_ {A = ℕ} 0 1 = cc in
-        absurd (omega arith)
+file-back file j w e =
+    let a = read-accepted file j e in
+    let n = first-nothing _ _ (nothing _ (a .0)) in
+    rw (← a .1) (rw (numbers-job (values 25 file) (values-long 25 file)) (all-read 25 0 file w (n .0)), n .1)
 
 written-reads : (j : Job) (out : List ℕ) (n : ℕ) → answer j out ≡ Length n → jobIn (take n (written j out)) ≡ Accepted j
-written-reads j out n e = cases (eqb (number (writeRefusal j (length out))) 0) (λ t. done (eqb-true _ 0 t)) (λ t. refused (eqb-false _ 0 t))
-  where
-    done : number (writeRefusal j (length out)) ≡ 0 → jobIn (take n (written j out)) ≡ Accepted j
-    done z =
-        let d = write-done j out _ refl z in
-        let a : Length (length (fileOf j)) ≡ Length n = d .0 ∙ e in
-        let q : length (fileOf j) ≡ n = cc in
-        rw (← q, ← d .1, take-append-seam) (job-back j (write-fits j out _ refl z .0))
-
-    refused : (number (writeRefusal j (length out)) ≡ 0 → ⊥) → jobIn (take n (written j out)) ≡ Accepted j
-    refused z =
-        let a = write-refused j out _ refl z .0 ∙ e in
-        let c : _≡_ {A = ℕ} 0 1 = cc in
-        absurd (omega arith)
+written-reads j out n e =
+    let a = write-length j out n e in
+    rw (← a .1, ← write-done j out _ refl (a .0) .1, take-append-seam) (job-back j (write-fits j out _ refl (a .0) .0))
 
 written-whole : (j : Job) (out : List ℕ) → Stands j → length (fileOf j) ≤ length out
     → (Length (length (fileOf j)) ≡ answer j out) × (fileOf j ++ drop (length (fileOf j)) out ≡ written j out)
@@ -99,10 +76,7 @@ one-job j k g h e =
 
 no-beginning : (j k : Job) (rest : List ℕ) → Stands j → Stands k → fileOf k ≡ fileOf j ++ rest → rest ≡ []
 no-beginning j k [] g h e = refl
-no-beginning j k (b ∷ bs) g h e =
-    let a : Refused (Trailing (length (fileOf j))) ≡ Accepted k = sym (extra-refused j b bs g) ∙ ap jobIn (sym e) ∙ job-back k h in
-    let c : _≡_ {A = ℕ} 0 1 = cc in
-    absurd (omega arith)
+no-beginning j k (b ∷ bs) g h e = refused-accepted (sym (extra-refused j b bs g) ∙ ap jobIn (sym e) ∙ job-back k h)
 
 pub round-trip : RoundTrip
 round-trip =

@@ -40,12 +40,24 @@ module _ (j : Job) (out : List ℕ) (r : Refusal) (e : r ≡ writeRefusal j (len
 
 -- the length of the buffer stays
 pub written-length : (j : Job) (out : List ℕ) → length (written j out) ≡ length out
-written-length j out = cases (eqb (number (writeRefusal j (length out))) 0) (λ t. done (eqb-true _ 0 t)) (λ t. rw (← write-refused j out _ refl (eqb-false _ 0 t) .1))
-  where
-    done : number (writeRefusal j (length out)) ≡ 0 → length (written j out) ≡ length out
-    done z =
-        let l = write-fits j out _ refl z .1 in
-        rw (← write-done j out _ refl z .1, length-append, length-drop) (omega arith)
+written-length j out =
+    cases (eqb (number (writeRefusal j (length out))) 0)
+    (λ t.
+    let z = eqb-true _ 0 t in
+    let l = write-fits j out _ refl z .1 in
+    rw (← write-done j out _ refl z .1, length-append, length-drop) (omega arith))
+    (λ t. rw (← write-refused j out _ refl (eqb-false _ 0 t) .1))
+
+-- where the answer is a length: nothing is refused, and it is the file's
+pub write-length : (j : Job) (out : List ℕ) (n : ℕ) → answer j out ≡ Length n → (number (writeRefusal j (length out)) ≡ 0) × (length (fileOf j) ≡ n)
+unfolding answer writtenOr
+write-length j out n e =
+    cases (eqb (number (writeRefusal j (length out))) 0)
+    (λ t. let a : Length (length (fileOf j)) ≡ Length n = rw t at e in (eqb-true _ 0 t, cc))
+    (λ t.
+    let a : Refused (writeRefusal j (length out)) ≡ Length n = rw t at e in
+    let z : _≡_ {A = ℕ} 0 1 = cc in
+    absurd (omega arith))
 
 pub answer-is : (j : Job) (out : List ℕ) {r : Refusal} {n : ℕ} → r ≡ writeRefusal j (length out) → n ≡ length (fileOf j) → writtenOr r n ≡ answer j out
 unfolding answer

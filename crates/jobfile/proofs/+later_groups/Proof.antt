@@ -1,6 +1,7 @@
 -- `later_groups` meets its contract: a recursion that ends, as fewer groups may stand before the last at each call. Assumes nothing.
-use Prim.Native.Nat.{ℕ, zero, suc, _^_, _<_, _≤_, _+_, _-_}
-use mathlib.Core.Path.{_≡_, _∙_, refl, sym, ap, subst}
+use Prim.Native.Nat.{ℕ, _^_, _<_, _≤_, _+_, _-_}
+use mathlib.Core.Path.{_∙_, sym, ap, subst}
+use native.Mathlib.Nat.{pos-of-ne-zero}
 use native.Mathlib.Omega.{arith}
 use denote.Ref.{now}
 use lib.ListN.{drop, getD}
@@ -27,10 +28,6 @@ later-groups-at t = and 1 later-groups-kinds.ps (is 1 later-groups-kinds.ps μ-l
 abbrev later-groups-below : ℕ → In 1 later-groups-kinds.ps
 later-groups-below t = and 1 later-groups-kinds.ps (falls 1 later-groups-kinds.ps _<_ μ-later-groups t) later-groups.Pre
 
-above-zero : (n : ℕ) → (n ≡ 0 → ⊥) → 1 ≤ n
-above-zero zero h = absurd (h refl)
-above-zero (suc n) h = omega arith
-
 pub +later-groups-spec : {M : Type 1} → statement M
 +later-groups-spec = close μ-later-groups λ t.
     later-groups-lts.spec
@@ -52,8 +49,8 @@ pub +later-groups-spec : {M : Type 1} → statement M
     let h : 128 ≤ getD (now (a .file)) (a .at) 0 = omega (arith, w, c .before .if2 .left) in
     sym (rw (c .if3 .taken) (later-none (now (a .file)) (a .at) (omega arith) h)))  -- returns-3
     (λ c. search needs)  -- add-later-groups
-    (λ c. omega (arith, above-zero _ (c .if3 .left)))  -- sub-later-groups
-    (λ c κs. omega (arith, above-zero _ (c .if3 .left), c .before .before .before .before .before .before .pre))  -- later-groups-requires
+    (λ c. omega (arith, pos-of-ne-zero (c .if3 .left)))  -- sub-later-groups
+    (λ c κs. omega (arith, pos-of-ne-zero (c .if3 .left), c .before .before .before .before .before .before .pre))  -- later-groups-requires
     (λ c κs.
     let s = c .before .before .before .before .before .before .before in
     subst (Bounded (2 ^ 28) 4) (sym (c .later-groups .ensures)) (later-small (s .args .f - 1) (drop (s .args .at + 1) (now (s .args .file))) (omega (arith, s .pre))))  -- extended-requires
@@ -61,7 +58,7 @@ pub +later-groups-spec : {M : Type 1} → statement M
     let a = c .before .before .before .before .before .before .before .before .args in
     let w = c .before .before .before .before .wide .ensures in
     let h : 128 ≤ getD (now (a .file)) (a .at) 0 = omega (arith, w, c .before .before .before .if2 .left) in
-    let e = later-more (a .f) (now (a .file)) (a .at) (omega (arith, above-zero _ (c .before .before .if3 .left))) (omega arith) h in
+    let e = later-more (a .f) (now (a .file)) (a .at) (omega (arith, pos-of-ne-zero (c .before .before .if3 .left))) (omega arith) h in
     c .extended .ensures
     ∙ ap (λ (b : ℕ). extend b (c .before .later-groups .result)) w
     ∙ ap (extend (getD (now (a .file)) (a .at) 0)) (c .before .later-groups .ensures)
