@@ -5,10 +5,10 @@ use mathlib.Core.List.{List, [], _∷_}
 use lib.Dec.{eqb}
 use lib.ListN.{drop, replicate}
 use Rattle.basis.specs.Choice.{pick}
-use Rattle.basis.specs.Refusal.{number, first}
+use Rattle.basis.specs.Refusal.{number, place, first}
 use Rattle.basis.specs.declared.Refusal.{Refusal}
 use Rattle.basis.specs.declared.Refusal.the-variants.{Nothing, Damaged, Trailing}
-use Rattle.job.specs.Job.{jobOf}
+use Rattle.job.specs.Job.{jobOf, numbers}
 use Rattle.job.specs.Examine.{examination}
 use Rattle.jobfile.specs.Decode.{decode}
 use Rattle.jobfile.specs.declared.Decoded.the-variants.{Number, Malformed}
@@ -43,3 +43,8 @@ readRefusal file = first (damage 25 0 file) (examination (jobOf (values 25 file)
 unfoldable pub jobIn : List ℕ → ReadJob
 unfolding readRefusal
 jobIn file = pick (eqb (number (readRefusal file)) 0) (Accepted (jobOf (values 25 file))) (Refused (readRefusal file))
+
+-- document 01's number and values for each answer: 0 and the 25 numbers of the job, or the refusal and its place
+abbrev pub readValues : ReadJob → List ℕ
+readValues (Accepted j) = 0 ∷ numbers j
+readValues (Refused refusal) = number refusal ∷ place refusal ∷ []

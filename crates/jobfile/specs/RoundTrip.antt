@@ -26,7 +26,7 @@ pub record RoundTrip : Type 0 where
   -- where `read` gives a job, `write` of it into a buffer with room puts those bytes back
   pub read-writes : (file : List ℕ) (j : Job) (out : List ℕ) → Bytes file → jobIn file ≡ Accepted j → length file ≤ length out
       → (answer j out ≡ Length (length file)) × (written j out ≡ file ++ drop (length file) out)
-  -- two accepted jobs of one file are one job
+  -- different accepted jobs have different files: two of one file are one job
   pub one-job : (j k : Job) → Stands j → Stands k → fileOf j ≡ fileOf k → j ≡ k
   -- bytes after a job's file are refused at its length
   pub extra-refused : (j : Job) (b : ℕ) (bs : List ℕ) → Stands j → jobIn (fileOf j ++ b ∷ bs) ≡ Refused (Trailing (length (fileOf j)))

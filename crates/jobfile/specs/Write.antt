@@ -1,11 +1,11 @@
 -- Writing a job file: refusals 3, 4, 5 and 8, in that order, or the file at the front of the buffer.
 -- Assumes nothing.
 use Prim.Native.Nat.{ℕ}
-use mathlib.Core.List.{List, _++_}
+use mathlib.Core.List.{List, [], _∷_, _++_}
 use lib.Dec.{leb, eqb}
 use lib.ListN.{length, drop}
 use Rattle.basis.specs.Choice.{pick}
-use Rattle.basis.specs.Refusal.{number, unless, first}
+use Rattle.basis.specs.Refusal.{number, place, unless, first}
 use Rattle.basis.specs.declared.Refusal.{Refusal}
 use Rattle.basis.specs.declared.Refusal.the-variants.{Nothing, TooShort}
 use Rattle.job.specs.declared.Job.{Job}
@@ -40,3 +40,8 @@ answer j out = writtenOr (writeRefusal j (length out)) (length (fileOf j))
 unfoldable pub written : Job → List ℕ → List ℕ
 unfolding fileOf writeRefusal
 written j out = pick (eqb (number (writeRefusal j (length out))) 0) (fileOf j ++ drop (length (fileOf j)) out) out
+
+-- document 01's number and values for each answer: 0 and the length, or the refusal and its place
+abbrev pub writtenValues : Written → List ℕ
+writtenValues (Length n) = 0 ∷ n ∷ []
+writtenValues (Refused refusal) = number refusal ∷ place refusal ∷ []

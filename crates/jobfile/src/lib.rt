@@ -181,7 +181,7 @@ pub fn read(file: &[u8]) -> ReadJob
     }
 }
 
-// The number of a number's groups.
+// How many groups a number has.
 fn encoded_length(n: u32) -> usize
     ensures { λ r. ⌜ r ≡ length (encode n) ⌝ }
 {
@@ -207,8 +207,8 @@ fn file_length(numbers: [u32; 25]) -> usize
     n
 }
 
-// Writes a number's groups at the front of a buffer that has room for them, and gives their number.
-fn write_number(out: &mut [u8], n: u32) -> usize
+// Writes a number's groups at the front of a buffer that has room for them, and gives how many there are.
+fn write_number(n: u32, out: &mut [u8]) -> usize
     requires { ⌜ length (encode n) ≤ length (now out) ⌝ }
     ensures { λ r. ⌜ (r ≡ length (encode n)) × (now (out .exit) ≡ encode n ++ drop (length (encode n)) (now (out .entry))) ⌝ }
 {
@@ -224,14 +224,14 @@ fn write_number(out: &mut [u8], n: u32) -> usize
 }
 
 // Writes 25 numbers, each into what is left of the buffer after the one before.
-fn write_numbers(out: &mut [u8], numbers: [u32; 25])
+fn write_numbers(numbers: [u32; 25], out: &mut [u8])
     requires { ⌜ length (encodeAll numbers) ≤ length (now out) ⌝ }
     ensures { λ _. ⌜ now (out .exit) ≡ encodeAll numbers ++ drop (length (encodeAll numbers)) (now (out .entry)) ⌝ }
 {
     let mut done: usize = 0;
     let mut at: usize = 0;
     while done < 25 {
-        at += write_number(&mut out[at..], numbers[done]);
+        at += write_number(numbers[done], &mut out[at..]);
         done += 1;
     }
 }
@@ -261,7 +261,7 @@ pub fn write(j: Job, out: &mut [u8]) -> Written
     );
     let refused = first_of(examine(j), short);
     if number_of(refused) == 0 {
-        write_numbers(out, numbers);
+        write_numbers(numbers, out);
     }
     answer_of(refused, needed)
 }

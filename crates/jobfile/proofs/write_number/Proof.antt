@@ -11,11 +11,11 @@ use Rattle.jobfile.proofs.write_number.Statement.{statement}
 use Rattle.jobfile.proofs.write_number.Tie as tie
 
 abbrev Inv-loop : tie.InvT-loop
-Inv-loop out₀ n x₀ k₀ out x k =
+Inv-loop n out₀ x₀ k₀ out x k =
     (out ≡ front out₀ (encode n) k) × (drop k (encode n) ≡ encode x) × (x < 2 ^ 32) × (k < length (encode n))
 
 abbrev μ-loop : tie.MeasureT-loop
-μ-loop out₀ n x₀ k₀ out x k = x
+μ-loop n out₀ x₀ k₀ out x k = x
 
 -- the place of the next group is in the buffer that was lent
 room : (c : tie.At-loop Inv-loop μ-loop) → c .loop .k < length (c .before .args .out .now)
