@@ -2,9 +2,9 @@
 -- Assumes nothing.
 use mathlib.Core.Path.{_≡_, refl, ap}
 use mathlib.Core.Bool.{Bool, true, false}
-use Prim.Native.Nat.{_<_}
+use Prim.Native.Nat.{_≤_, _<_}
 use native.Mathlib.Omega.{arith}
-use lib.Dec.{T, eqb}
+use lib.Dec.{T, eqb, lit≤}
 use borrow.Author.Tests.{eq-eqb, ne-eqb, eqb-true, eqb-false}
 use Rattle.basis.specs.declared.Refusal.{Refusal}
 use Rattle.basis.specs.declared.Refusal.the-variants.{Nothing, SheetLength, SheetEntry, FieldRange, Contradiction, Wall, Damaged, Trailing, TooShort}
@@ -18,6 +18,17 @@ first-rest a b e = simp (eq-eqb (number a) 0 e)
 pub first-here : (a b : Refusal) → (number a ≡ 0 → ⊥) → a ≡ first a b
 unfolding first
 first-here a b h = simp (ne-eqb (number a) 0 h)
+
+pub number-most : (a : Refusal) → number a ≤ 8
+number-most Nothing = lit≤ tt
+number-most (SheetLength n) = lit≤ tt
+number-most (SheetEntry k) = lit≤ tt
+number-most (FieldRange k) = lit≤ tt
+number-most (Contradiction k) = lit≤ tt
+number-most (Wall k) = lit≤ tt
+number-most (Damaged k) = lit≤ tt
+number-most (Trailing k) = lit≤ tt
+number-most (TooShort n) = lit≤ tt
 
 -- only what is nothing has the number 0
 pub nothing : (a : Refusal) → number a ≡ 0 → a ≡ Nothing

@@ -9,9 +9,7 @@ use Rattle.basis.specs.Refusal.{number}
 use Rattle.basis.specs.declared.Refusal.{Refusal}
 use Rattle.basis.proofs.Refusals.{nothing, first-nothing}
 use Rattle.job.specs.declared.Job.{Job}
-use Rattle.job.specs.Bounds.{Bounds}
 use Rattle.job.specs.Examine as Job
-use Rattle.job.proofs.Bounds.{bounds}
 use Rattle.sheet.specs.Sheet as Sheet
 use Rattle.section5.specs.declared.heights.Height.{Height}
 use Rattle.judge.specs.declared.Judgement.{Judgement}
@@ -43,16 +41,16 @@ module _ (s : List ℕ) (j : Job) where
     unfolding answer
     refuse h g = simp (← e, ne-eqb (number r) 0 h, g)
 
-    pub accept : {b : Judgement} → number r ≡ 0 → b ≡ A.judgement (W.poleOf s j) j → record { refusal = r; judgement = b } ≡ answer s j
+    pub accept : {b : Judgement} → number r ≡ 0 → b ≡ judgement s j → record { refusal = r; judgement = b } ≡ answer s j
     unfolding answer
-    accept h g = simp (← e, eq-eqb (number r) 0 h, judgement-same, g)
+    accept h g = simp (← e, eq-eqb (number r) 0 h, g)
 
     accepted : number r ≡ 0 → Accepted s j
     unfolding Accepted
     accepted h = sym e ∙ nothing r h
 
-    pub ready : number r ≡ 0 → Sheet.Stands s × Bounds j
-    ready h = (sheet-stands (accepted h), bounds j (job-stands (accepted h)))
+    pub ready : number r ≡ 0 → Sheet.Stands s × Job.Stands j
+    ready h = (sheet-stands (accepted h), job-stands (accepted h))
 
   -- the parts of a judgement, as the code works them out
   pub assembled : {p : Pole} {v f : List ℕ} {h k : Height} {n w m z : ℕ} {notDue : Bool} → p ≡ W.poleOf s j → notDue ≡ W.notDue j → n ≡ W.heightCount p notDue → v ≡ W.verdicts p j → f ≡ W.figures p j → h ≡ W.fromCount n → k ≡ W.permittedOf (j .family) (W.fromCount n) → w ≡ W.wk j → m ≡ W.mw j → z ≡ W.columnSlenderness j → record { verdicts = v; figures = f; stability = h; permitted = k; wk = w; mw = m; z = z } ≡ A.judgement (W.poleOf s j) j

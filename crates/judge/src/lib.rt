@@ -1,9 +1,10 @@
 // Judging a job under a column sheet: refused by 1 to 5, or judged by section 5.
 ghost use mathlib.Core.Path.{_≡_};
 ghost use Rattle.job.specs.Bounds.{Bounds};
+ghost use Rattle.job.specs.Examine.{Stands as JobStands};
 ghost use Rattle.sheet.specs.Sheet.{Stands};
 ghost use Rattle.section5.specs.Whole.{poleOf};
-ghost use Rattle.judge.specs.Answer.{answer, blank};
+ghost use Rattle.judge.specs.Answer.{answer, blank, judgement as judged};
 ghost use Rattle.judge.specs.Whole.{judgement};
 use basis::Refusal;
 use basis::first_of;
@@ -79,6 +80,15 @@ fn blank_of() -> Judgement
     }
 }
 
+// The judgement of a sheet and a job of which nothing is refused.
+// requires: a caller has examined both; judge does so itself.
+pub fn judge_accepted(sheet: &[u16], j: Job) -> Judgement
+    requires { ⌜ Stands (now sheet) × JobStands j ⌝ }
+    ensures { λ r. ⌜ r ≡ judged (now (sheet .entry)) j ⌝ }
+{
+    judgement_of(sheet, j)
+}
+
 // Refuses the sheet (1, 2), then the job (3, 4, 5), or judges it.
 pub fn judge(sheet: &[u16], j: Job) -> Judged
     ensures { λ r. ⌜ r ≡ answer (now (sheet .entry)) j ⌝ }
@@ -92,6 +102,6 @@ pub fn judge(sheet: &[u16], j: Job) -> Judged
     }
     Judged {
         refusal,
-        judgement: judgement_of(sheet, j),
+        judgement: judge_accepted(sheet, j),
     }
 }

@@ -1,10 +1,11 @@
-// The column sheet: what about it is refused (refusals 1 and 2), and the stability factor read from it.
+// The column sheet: its entries from bytes, what about it is refused (refusals 1 and 2), and the stability factor read from it.
 ghost use mathlib.Core.Path.{_≡_};
 ghost use Prim.Native.Nat.{_≤_};
 ghost use lib.ListN.{length};
 ghost use Rattle.basis.specs.Search.{firstFail};
 ghost use Rattle.sheet.specs.Sheet.{stands, entryStands, examination, Stands};
 ghost use Rattle.sheet.specs.Factor.{Reading};
+ghost use Rattle.sheet.specs.Bytes.{entry, entries};
 use basis::Refusal;
 use basis::both_of;
 use basis::either_of;
@@ -15,6 +16,30 @@ fn wide(x: u16) -> u32
     ensures { λ r. ⌜ r ≡ x ⌝ }
 {
     x as u32
+}
+
+// An entry from its low byte and its high byte.
+fn entry_of(low: u8, high: u8) -> u16
+    ensures { λ r. ⌜ r ≡ entry low high ⌝ }
+{
+    let low = low as u16;
+    let high = high as u16;
+    low + 256 * high
+}
+
+// The entries of 502 bytes, each low byte first.
+// requires: the whole call has seen that there are 502.
+pub fn entries_of(bytes: &[u8]) -> [u16; 251]
+    requires { ⌜ length (now bytes) ≡ 502 ⌝ }
+    ensures { λ r. ⌜ r ≡ entries (now (bytes .entry)) 251 ⌝ }
+{
+    let mut sheet: [u16; 251] = [0; 251];
+    let mut k: usize = 0;
+    while k < 251 {
+        sheet[k] = entry_of(bytes[2 * k], bytes[2 * k + 1]);
+        k += 1;
+    }
+    sheet
 }
 
 // The entry e at place k, after the entry d, stands.

@@ -16,5 +16,5 @@ judge-spec =
     (λ c κs. search needs)  -- number-of-requires
     (λ c κs. search needs)  -- blank-of-requires
     (λ c. refuse _ _ (unfold refusal in cc) (λ e. c .before .if1 .taken (c .before .before .number-of .ensures ∙ e)) (c .blank-of .ensures))  -- returns
-    (λ c κs. ready _ _ {r = c .before .before .first-of .result} (unfold refusal in cc) (sym (c .before .number-of .ensures) ∙ c .if1 .left))  -- judgement-of-requires
-    (λ c. accept _ _ (unfold refusal in cc) (sym (c .before .before .number-of .ensures) ∙ c .before .if1 .left) (c .judgement-of .ensures)))  -- returns-2
+    (λ c κs. ready _ _ {r = c .before .before .first-of .result} (unfold refusal in cc) (sym (c .before .number-of .ensures) ∙ c .if1 .left))  -- judge-accepted-requires
+    (λ c. accept _ _ (unfold refusal in cc) (sym (c .before .before .number-of .ensures) ∙ c .before .if1 .left) (c .judge-accepted .ensures)))  -- returns-2
