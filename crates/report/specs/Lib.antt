@@ -1,0 +1,4 @@
+pub mod Digits
+pub mod Report
+pub mod Put
+pub mod Marked
