@@ -42,14 +42,14 @@ up-to zero H = (λ u. absurd u, λ l. absurd (omega arith))
 up-to (suc n) H = (λ u. omega arith, λ l. omega arith)
 
 module _ (s : List ℕ) (j : Job) (a : Accepted s j) where
-  whole : (answer s j) .judgement ≡ A.judgement (W.poleOf s j) j
+  pub whole : (answer s j) .judgement ≡ A.judgement (W.poleOf s j) j
   whole = judged s j a ∙ judgement-same s j
 
   verdicts-are : (answer s j) .judgement .verdicts ≡ W.verdicts (W.poleOf s j) j
   unfolding A.judgement
   verdicts-are = ap (λ r. r .verdicts) whole
 
-  height-is : heightOf s j ≡ W.fromCount (W.heightCount (W.poleOf s j) (W.notDue j))
+  pub height-is : heightOf s j ≡ W.fromCount (W.heightCount (W.poleOf s j) (W.notDue j))
   unfolding A.judgement
   height-is = ap (λ r. r .stability) whole
 

@@ -5,3 +5,6 @@ pub mod Put
 pub mod CheckLines
 pub mod LineLengths
 pub mod Outcome
+pub mod Widths
+pub mod Standing
+pub mod Longest

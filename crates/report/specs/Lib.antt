@@ -1,4 +1,5 @@
 pub mod Digits
 pub mod Report
 pub mod Put
+pub mod Greatest
 pub mod Marked

@@ -2,6 +2,7 @@
 ghost use mathlib.Core.Path.{_≡_};
 ghost use lib.ListN.{length as List·length};
 ghost use Rattle.report.specs.Report.{report, outcome, left};
+ghost use Rattle.report.specs.Greatest.{greatest};
 ghost use Rattle.report.specs.Put.{Room, Put};
 use crate::lengths::checks_length;
 use crate::lengths::column_line_length;
@@ -18,10 +19,20 @@ mod lengths;
 mod lines;
 mod text;
 
+// No report of an accepted job is longer, and one is as long.
+pub const GREATEST: usize = 164;
+
 // What came of writing: the refusal, or nothing refused and the length beside it.
 pub struct Written {
     pub refusal: Refusal,
     pub length: usize,
+}
+
+// The greatest length, over all accepted jobs.
+pub fn greatest_length() -> usize
+    ensures { λ r. ⌜ r ≡ greatest ⌝ }
+{
+    GREATEST
 }
 
 // How many bytes the report of a judgement has.

@@ -1,8 +1,9 @@
 -- Each figure's greatest value, over a job whose fields are in their ranges.
 -- Assumes nothing.
 use mathlib.Core.Bool.{Bool, true, false}
+use mathlib.Core.List.{List}
 use Prim.Native.Nat.{ℕ, _+_, _*_, _-_, _≤_}
-use native.Mathlib.Nat.{le-refl, le-trans, mul-le-mul-left, div-le-self}
+use native.Mathlib.Nat.{le-refl, le-trans, min-le-right, mul-le-mul-left, div-le-self}
 use native.Mathlib.Omega.{arith}
 use lib.Dec.{T, leb, eqb, lit≤}
 use Rattle.basis.specs.Choice.{pick}
@@ -13,7 +14,7 @@ use Rattle.basis.proofs.Fits.{ceil-below}
 use Rattle.job.specs.declared.Job.{Job}
 use Rattle.job.specs.Bounds.{Bounds}
 use Rattle.section5.specs.declared.poles.Pole.{Pole}
-use Rattle.section5.specs.Whole.{greatestForce, greatestForceWind, board, rail, overhang, shapeUnit, tieBase, deck, fittings, live, Small, force, forceWind, wk, mw, transomMoment, factor, columnSlenderness, face, ledgerMoment, ledgerLoad, transomLoad, slip, tieForce}
+use Rattle.section5.specs.Whole.{greatestForce, greatestForceWind, board, rail, stiffness, overhang, shapeUnit, tieBase, heightLimit, deck, fittings, live, poleOf, Small, force, forceWind, wk, mw, transomMoment, transomLoad, transomDeflection, columnSlenderness, slenderness, face, ledgerMoment, ledgerLoad, ledgerDeflection, slip, tieForce, permitted}
 use Rattle.section5.proofs.LengthFactor.{factor-most}
 
 pub board-most : (b : ℕ) → board b ≤ 350
@@ -30,6 +31,18 @@ tieBase-most f = pick-below (eqb f 1) (le-refl 5000) (lit≤ tt)
 
 pub shapeUnit-most : (e w : ℕ) → shapeUnit e w ≤ 156
 shapeUnit-most e w = pick-below (eqb e 1) (lit≤ tt) (mul-le-mul-left 12 (pick-below (eqb w 1) (lit≤ tt) (le-refl 13)))
+
+pub permitted-most : (f H : ℕ) → permitted f H ≤ 5000
+unfolding permitted
+permitted-most f H = le-trans (min-le-right _ (heightLimit f)) (pick-below (eqb f 1) (le-refl 5000) (lit≤ tt))
+
+-- a division up by a number that depends on the tube
+tube-below : {n m : ℕ} (tube : ℕ) (f : ℕ → ℕ) (x y b : ℕ) → T (leb (ceil b (f x)) m) → T (leb (ceil b (f y)) m) → n ≤ b → ceil n (f (pick (eqb tube 1) x y)) ≤ m
+tube-below {n} {m} tube f x y b p q h = go (eqb tube 1)
+  where
+    go : (t : Bool) → ceil n (f (pick t x y)) ≤ m
+    go true = ceil-below (f x) b p h
+    go false = ceil-below (f y) b q h
 
 module _ {j : Job} (r : Bounds j) where
   pub deck-most : deck j ≤ 155 + 30
@@ -58,14 +71,11 @@ module _ {j : Job} (r : Bounds j) where
 
   pub columnSlenderness-most : columnSlenderness j ≤ 293
   unfolding columnSlenderness ceil
-  columnSlenderness-most = go (eqb (j .tube) 1)
-    where
-      most : (d : ℕ) → T (leb (ceil (1155 * 200 * 200) d) 293) → ceil (1155 * factor j * j .step) d ≤ 293
-      most d t = ceil-below d (1155 * 200 * 200) t (search (mono, factor-most) depth 12)
+  columnSlenderness-most = tube-below (j .tube) (λ i. 1000 * i) 158 170 (1155 * 200 * 200) tt tt (search (mono, factor-most) depth 12)
 
-      go : (b : Bool) → ceil (1155 * factor j * j .step) (1000 * pick b 158 170) ≤ 293
-      go true = most 158000 tt
-      go false = most 170000 tt
+  pub slenderness-most : slenderness j ≤ 999
+  unfolding slenderness ceil
+  slenderness-most = tube-below (j .tube) (λ i. i) 158 170 (200 * 200) tt tt (search (mono, factor-most) depth 12)
 
   pub face-most : face j ≤ 3 * 200 * (3 * 200)
   unfolding face
@@ -91,7 +101,21 @@ module _ {j : Job} (r : Bounds j) where
   unfolding ledgerLoad
   ledgerLoad-most = search (mono, board-most) depth 12
 
-module _ {p : Pole} (r : Small p) {H : ℕ} (l : H ≤ 6000) where
+  pub transomDeflection-most : transomDeflection j ≤ 99999
+  unfolding transomDeflection stiffness ceil
+  transomDeflection-most = tube-below (j .tube) (λ i. 1536 * (206000 * i)) 121900 130800 (1000 * ((350 + 10000) * 200 * (155 * 155 * 155) * 155)) tt tt (search (mono, transomLoad-most) depth 12)
+
+  pub ledgerDeflection-most : ledgerDeflection j ≤ 99999
+  unfolding ledgerDeflection stiffness ceil
+  ledgerDeflection-most = tube-below (j .tube) (λ i. 4000 * (206000 * i)) 121900 130800 ((1146 * 350 + 1615 * 10000) * (200 * 200 * 200) * 155 * 200) tt tt (search (mono, ledgerLoad-most) depth 12)
+
+  pub fittings-below : fittings j ≤ 280000000
+  fittings-below = le-trans fittings-most (lit≤ tt)
+
+  pub live-below : live j ≤ 1110000000
+  live-below = le-trans live-most (lit≤ tt)
+
+module _ (p : Pole) {H : ℕ} (w : p .weight ≤ 500) (f : p .fittings ≤ 280000000) (l : p .live ≤ 1110000000) (h : H ≤ 6000) where
   pub force-most : force p H ≤ 142000
   unfolding force ceil
   force-most = ceil-below 200000 (12 * (200 * 500 * 6000 + 280000000) + 14 * 1110000000) tt (search mono depth 12)
@@ -99,6 +123,16 @@ module _ {p : Pole} (r : Small p) {H : ℕ} (l : H ≤ 6000) where
   pub forceWind-most : forceWind p H ≤ 142000
   unfolding forceWind ceil
   forceWind-most = ceil-below 2000000 (120 * (200 * 500 * 6000 + 280000000) + 119 * 1110000000) tt (search mono depth 12)
+
+-- at the job's own height
+module _ {j : Job} (r : Bounds j) (s : List ℕ) where
+  pub force-own-most : force (poleOf s j) (j .height) ≤ 142000
+  unfolding poleOf
+  force-own-most = force-most (poleOf s j) (r .weight) (fittings-below r) (live-below r) (le-trans (r .height) (lit≤ tt))
+
+  pub forceWind-own-most : forceWind (poleOf s j) (j .height) ≤ 142000
+  unfolding poleOf
+  forceWind-own-most = forceWind-most (poleOf s j) (r .weight) (fittings-below r) (live-below r) (le-trans (r .height) (lit≤ tt))
 
 module _ {p : Pole} (r : Small p) where
   pub greatestForce-most : greatestForce (p .over) (p .under) (p .area) ≤ 7320 * (205 * 489)

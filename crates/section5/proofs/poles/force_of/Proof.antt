@@ -20,4 +20,4 @@ force-of-spec =
     (λ c. search needs)  -- mul-ceil-div-4
     (λ c. fits-below (12 * (200 * 500 * 6000 + 280000000) + 14 * 1110000000) tt (search mono depth 12))  -- add-ceil-div-2
     (λ c κs. (lit< tt, lt-below (12 * (200 * 500 * 6000 + 280000000) + 14 * 1110000000 + 200000) tt (search mono depth 12)))  -- ceil-div-requires
-    (λ c. is-most _ tt (force-most (search) (search)) (unfold force in cc)))  -- returns
+    (λ c. is-most _ tt (force-most _ (search) (search) (search) (search)) (unfold force in cc)))  -- returns

@@ -20,4 +20,4 @@ force-wind-of-spec =
     (λ c. search needs)  -- mul-ceil-div-4
     (λ c. fits-below (120 * (200 * 500 * 6000 + 280000000) + 119 * 1110000000) tt (search mono depth 12))  -- add-ceil-div-2
     (λ c κs. (lit< tt, lt-below (120 * (200 * 500 * 6000 + 280000000) + 119 * 1110000000 + 2000000) tt (search mono depth 12)))  -- ceil-div-requires
-    (λ c. is-most _ tt (forceWind-most (search) (search)) (unfold forceWind in cc)))  -- returns
+    (λ c. is-most _ tt (forceWind-most _ (search) (search) (search) (search)) (unfold forceWind in cc)))  -- returns
