@@ -1,0 +1,95 @@
+/* Lengths of 4 GiB and more: places are capped, and no length is cut to 32 bits. */
+#define _DEFAULT_SOURCE
+#include <stdio.h>
+#include <stdlib.h>
+#include <string.h>
+#include <sys/mman.h>
+
+#include "check.h"
+#include "paper.h"
+#include "parts.h"
+
+static const size_t GIB4 = (size_t)1 << 32;
+
+/* Zeros that take memory only where they are written. */
+static void *zeros(size_t length) {
+    void *at = mmap(NULL, length, PROT_READ | PROT_WRITE, MAP_PRIVATE | MAP_ANONYMOUS | MAP_NORESERVE, -1, 0);
+    if (at == MAP_FAILED) {
+        perror("no address space for a buffer of more than 4 GiB");
+        exit(2);
+    }
+    return at;
+}
+
+static void sheet_of_length(size_t length, uint32_t place) {
+    uint8_t report[REMBILUNG_REPORT_MOST];
+    File j = file_of(job_j);
+    Sheet t = sheet_t();
+    uint8_t *sheet = zeros(length);
+    memcpy(sheet, t.bytes, sizeof t.bytes);
+    case_begins("sheet of %zu bytes", length);
+    result_is(rembilung_verdict(sheet, length, j.bytes, file_bytes(&j).length, report, sizeof report), refused(1, place));
+    munmap(sheet, length);
+}
+
+static void long_file(void) {
+    uint8_t report[REMBILUNG_REPORT_MOST];
+    uint32_t numbers[REMBILUNG_NUMBERS];
+    File j = file_of(job_j);
+    Sheet t = sheet_t();
+    size_t own = file_bytes(&j).length, length = GIB4 + own;
+    uint8_t *file = zeros(length);
+    memcpy(file, j.bytes, own);
+    case_begins("J's file with 4 GiB of zeros behind it");
+    Answer due = refused(7, (uint32_t)own);
+    result_is(rembilung_verdict(t.bytes, sizeof t.bytes, file, length, report, sizeof report), due);
+    result_is(rembilung_read_job(file, length, numbers, REMBILUNG_NUMBERS), due);
+    munmap(file, length);
+}
+
+/* The buffer begins with what is due and goes on, as far as is looked, with the zeros that it had. */
+static void begins_with(const uint8_t *buffer, Bytes due) {
+    static const uint8_t none[4096];
+    if (memcmp(buffer, due.at, due.length) != 0)
+        differs("what was written is not what is due");
+    if (memcmp(buffer + due.length, none, sizeof none) != 0)
+        differs("a byte beyond what is due was written");
+}
+
+static void long_report(void) {
+    File j = file_of(job_j);
+    Sheet t = sheet_t();
+    uint8_t *report = zeros(GIB4 + 8192);
+    case_begins("J into a report buffer of 4 GiB and 3 bytes");
+    result_is(rembilung_verdict(t.bytes, sizeof t.bytes, j.bytes, file_bytes(&j).length, report, GIB4 + 3),
+              gives((uint32_t)report_j().length, report_j()));
+    begins_with(report, report_j());
+    munmap(report, GIB4 + 8192);
+}
+
+static void long_buffers(void) {
+    File j = file_of(job_j);
+    Bytes own = file_bytes(&j);
+    uint8_t *buffer = zeros(4 * GIB4 + 8192);
+    case_begins("J written into a file buffer of 4 GiB and 3 bytes");
+    result_is(rembilung_write_job(job_j, REMBILUNG_NUMBERS, buffer, GIB4 + 3), gives((uint32_t)own.length, own));
+    begins_with(buffer, own);
+    memset(buffer, 0, own.length);
+    case_begins("J read into room for 4,294,967,299 numbers");
+    result_is(rembilung_read_job(own.at, own.length, (uint32_t *)(void *)buffer, GIB4 + 3), gives(REMBILUNG_NUMBERS, own));
+    begins_with(buffer, (Bytes){job_j, sizeof job_j});
+    memcpy(buffer, job_j, sizeof job_j);
+    case_begins("4,294,967,321 numbers to write, J's in front");
+    result_is(rembilung_write_job((uint32_t *)(void *)buffer, GIB4 + REMBILUNG_NUMBERS, j.bytes, sizeof j.bytes), refused(8, 25));
+    munmap(buffer, 4 * GIB4 + 8192);
+}
+
+void test_great_lengths(void) {
+    sheet_of_length(GIB4 - 2, 4294967294);
+    sheet_of_length(GIB4 - 1, 4294967295);
+    sheet_of_length(GIB4, 4294967295);
+    sheet_of_length(GIB4 + REMBILUNG_SHEET_BYTES, 4294967295);
+    long_file();
+    long_report();
+    long_buffers();
+}

@@ -1,0 +1,18 @@
+// Calls every function of the header from C++, with the header included first and twice; the exit status is 0 where job J is judged.
+#include "rembilung.h"
+#include "rembilung.h"
+
+static const uint32_t job_j[REMBILUNG_NUMBERS] = {1,   1,   105,  150, 180, 2, 3000, 3,   4,    2, 3000, 5000, 0,
+                                                  300, 300, 1000, 1,   200, 1, 240,  1,   8000, 4, 200,  2000};
+
+int main() {
+    uint8_t sheet[REMBILUNG_SHEET_BYTES], file[REMBILUNG_FILE_MOST], report[REMBILUNG_REPORT_MOST];
+    uint32_t numbers[REMBILUNG_NUMBERS];
+    for (int k = 0; k < REMBILUNG_SHEET_BYTES; k++)
+        sheet[k] = k % 2 == 0 ? 0xE8 : 0x03;
+    uint64_t made = rembilung_write_job(job_j, REMBILUNG_NUMBERS, file, sizeof file);
+    if (rembilung_refused(made) || rembilung_read_job(file, (size_t)made, numbers, REMBILUNG_NUMBERS) != REMBILUNG_NUMBERS)
+        return 1;
+    uint64_t done = rembilung_verdict(sheet, sizeof sheet, file, (size_t)made, report, sizeof report);
+    return numbers[REMBILUNG_PAD_AREA] == 2000 && rembilung_refusal(done) == 0 && rembilung_place(done) == done ? 0 : 1;
+}

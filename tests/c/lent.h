@@ -1,0 +1,33 @@
+/* Calls of the library with every buffer lent between guards, held to the answer that is due. */
+#ifndef LENT_H
+#define LENT_H
+
+#include <stddef.h>
+#include <stdint.h>
+
+typedef struct {
+    const void *at;
+    size_t length;
+} Bytes;
+
+/* The answer due: a refusal with its place and nothing written, or refusal 0, the length in place, and what is written. */
+typedef struct {
+    uint32_t refusal;
+    uint32_t place;
+    Bytes written;
+} Answer;
+
+/* The greatest length that a buffer of these calls can have, in bytes. */
+enum { LENT_MOST = 4096 };
+
+void make_pens(void);
+Answer refused(uint32_t refusal, uint32_t place);
+Answer gives(uint32_t length, Bytes written);
+void result_is(uint64_t result, Answer due);
+void expect_verdict(Bytes sheet, Bytes file, size_t report_length, Answer due);
+void expect_write(const uint32_t *numbers, size_t numbers_length, size_t file_length, Answer due);
+void expect_read(Bytes file, size_t numbers_length, Answer due);
+/* The whole call where only acceptance is known: the report that it wrote, whose length is returned, 0 on a refusal. */
+size_t expect_judged(Bytes sheet, Bytes file, uint8_t *report);
+
+#endif
