@@ -1,4 +1,4 @@
-// Calls every function of the header from C++, with the header included first and twice; the exit status is 0 where job J is judged.
+// Calls every function of the header from C++, the header included first and twice; exit status 0 where job J is judged.
 #include "rembilung.h"
 #include "rembilung.h"
 

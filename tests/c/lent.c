@@ -128,7 +128,8 @@ size_t expect_judged(Bytes sheet, Bytes file, uint8_t *report) {
     lend(&sheet_pen, sheet, sheet.length, 1);
     lend(&file_pen, file, file.length, 1);
     lend(&report_pen, (Bytes){NULL, 0}, REMBILUNG_REPORT_MOST, 1);
-    uint64_t result = rembilung_verdict(sheet_pen.at, sheet.length, file_pen.at, file.length, report_pen.at, REMBILUNG_REPORT_MOST);
+    uint64_t result = rembilung_verdict(sheet_pen.at, sheet.length, file_pen.at, file.length, report_pen.at,
+                                        REMBILUNG_REPORT_MOST);
     if (rembilung_refused(result) || result > REMBILUNG_REPORT_MOST) {
         differs("returned refusal %" PRIu32 " with %" PRIu32 ", and a report is due", rembilung_refusal(result),
                 rembilung_place(result));

@@ -1,6 +1,4 @@
 /* Refusals 3, 4 and 5: every field at and beside the ends of its range, contradictions, and walls unfit for a single row. */
-#include <string.h>
-
 #include "check.h"
 #include "paper.h"
 #include "parts.h"
@@ -123,10 +121,22 @@ static void walls(void) {
     job_accepted(with(with(plain(1, 1), 20, 0), 21, 2));
 }
 
+/* Every number at its longest, so the file has the greatest length that the header gives. */
+static void longest_file(void) {
+    static const Job longest = {{1, 2, 155, 200, 200, 3, 5000, 3, 10, 9, 10000, 30000, 5000,
+                                 500, 2000, 4000, 1, 2000, 2, 2000, 3, 100000, 5, 2000, 10000}};
+    File file = file_of(longest.numbers);
+    case_begins("the job with the longest file");
+    job_accepted(longest);
+    if (file_bytes(&file).length != REMBILUNG_FILE_MOST)
+        differs("its file has %zu bytes, and the header's greatest is %d", file_bytes(&file).length, REMBILUNG_FILE_MOST);
+}
+
 void test_ranges(void) {
     for (size_t k = 0; k < sizeof ranges / sizeof *ranges; k++)
         ends_of(&ranges[k]);
     lowest_of_neighbours();
     contradictions();
     walls();
+    longest_file();
 }

@@ -1,4 +1,6 @@
 /* Refusals 1 and 2: column sheets of every length, and every entry damaged in every way. */
+#include <string.h>
+
 #include "check.h"
 #include "paper.h"
 #include "parts.h"
@@ -14,8 +16,7 @@ static void judged_as(Bytes sheet, Answer due) {
 static void every_length(void) {
     static uint8_t bytes[LONGEST];
     Sheet t = sheet_t();
-    for (size_t k = 0; k < sizeof t.bytes; k++)
-        bytes[k] = t.bytes[k];
+    memcpy(bytes, t.bytes, sizeof t.bytes);
     for (uint32_t length = 0; length <= LONGEST; length++) {
         case_begins("sheet of %u bytes", (unsigned)length);
         Answer j = gives((uint32_t)report_j().length, report_j());
