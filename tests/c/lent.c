@@ -49,28 +49,18 @@ static void lend(Pen *pen, Bytes content, size_t length, int way) {
         memcpy(pen->at, content.at, content.length);
 }
 
-/* The offset, from the lent buffer's first byte, of the first byte of the room that is not as due; LENT_MOST if none. */
-static long first_wrong(const Pen *pen, Bytes due) {
-    long start = pen->at - pen->room, wrong = LENT_MOST;
-    for (long k = LENT_MOST - 1; k >= 0; k--) {
-        int inside = k >= start && k - start < (long)due.length;
-        uint8_t byte = inside ? ((const uint8_t *)due.at)[k - start] : pen->mark;
-        wrong = pen->room[k] == byte ? wrong : k - start;
-    }
-    return wrong;
-}
-
 /* The buffer begins with what is due, and all else of the room, beyond it and around it, is as it was. */
 static void holds(const Pen *pen, Bytes due) {
-    size_t before = (size_t)(pen->at - pen->room);
+    long start = pen->at - pen->room, k = 0;
     uint8_t expected[LENT_MOST];
     memset(expected, pen->mark, LENT_MOST);
     if (due.length > 0)
-        memcpy(expected + before, due.at, due.length);
+        memcpy(expected + start, due.at, due.length);
     if (memcmp(pen->room, expected, LENT_MOST) == 0)
         return;
-    long wrong = first_wrong(pen, due);
-    differs("%s: byte %ld is %02x (hexadecimal), and not what is due there", pen->name, wrong, pen->at[wrong]);
+    while (pen->room[k] == expected[k])
+        k++;
+    differs("%s: byte %ld is %02x, and %02x is due (hexadecimal)", pen->name, k - start, pen->room[k], expected[k]);
 }
 
 Answer refused(uint32_t refusal, uint32_t place) {

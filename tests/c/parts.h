@@ -2,7 +2,6 @@
 #ifndef PARTS_H
 #define PARTS_H
 
-void test_job_j(void);
 void test_vectors(void);
 void test_sheets(void);
 void test_files(void);
