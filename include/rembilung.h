@@ -1,8 +1,9 @@
 /* The C interface of Rembilung: a scaffold job judged by section 5 of JGJ 130-2001, a job file written, a job file read.
  *
  * What it does. A job is 25 whole numbers that describe one facade scaffold of tube and couplers. A job file is a job
- * packed into bytes. The column sheet is the table of stability factors, 502 bytes. From a sheet and a job file,
- * rembilung_verdict writes a report: eleven checks with verdict and figure, two heights, wind and slenderness.
+ * packed into bytes: each number in groups of seven bits, low group first, top bit set on every byte but its last. The
+ * column sheet is the table of stability factors, 502 bytes. From a sheet and a job file, rembilung_verdict writes a
+ * report: eleven checks with verdict and figure, two heights, wind and slenderness.
  *
  *     uint32_t numbers[REMBILUNG_NUMBERS] = { 1, 1, 105, 150, 180, 2, 3000, 3, 4, 2, 3000, 5000, 0,
  *                                             300, 300, 1000, 1, 200, 1, 240, 1, 8000, 4, 200, 2000 };
@@ -22,7 +23,7 @@
  * No call keeps anything: there is no state, nothing is allocated or printed, and threads may call at the same time as
  * long as none writes to a buffer that another has lent.
  *
- * To link: cc host.c librembilung.a. C99 or C++.
+ * To link, on x86-64: cc host.c librembilung.a. From C99 or C++.
  */
 #ifndef REMBILUNG_H
 #define REMBILUNG_H
