@@ -182,7 +182,7 @@ static int judge_under(const Asked *asked, const Job *job) {
 
 /* Makes the job file of numbers that were keyed in, and says JUDGED where nothing hinders judging it. */
 static int make_file(Job *job) {
-    uint64_t made = rembilung_write_job(job->numbers, REMBILUNG_NUMBERS, job->file, sizeof job->file);
+    uint64_t made = rembilung_write_job(job->numbers, job->file, sizeof job->file);
     if (rembilung_refused(made))
         return refuse(made, job);
     job->length = (size_t)made;

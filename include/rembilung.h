@@ -8,7 +8,7 @@
  *     uint32_t numbers[REMBILUNG_NUMBERS] = { 1, 1, 105, 150, 180, 2, 3000, 3, 4, 2, 3000, 5000, 0,
  *                                             300, 300, 1000, 1, 200, 1, 240, 1, 8000, 4, 200, 2000 };
  *     uint8_t file[REMBILUNG_FILE_MOST], report[REMBILUNG_REPORT_MOST];
- *     uint64_t made = rembilung_write_job(numbers, REMBILUNG_NUMBERS, file, sizeof file);
+ *     uint64_t made = rembilung_write_job(numbers, file, sizeof file);
  *     if (rembilung_refused(made)) ..           rembilung_refusal(made) says why, rembilung_place(made) where
  *     uint64_t done = rembilung_verdict(sheet, REMBILUNG_SHEET_BYTES, file, (size_t)made, report, sizeof report);
  *     if (rembilung_refused(done)) ..
@@ -16,14 +16,14 @@
  *
  * Every input is met by an answer or a refusal: nothing has to be tested before a call.
  *
- * Buffers. A pointer and the length after it are one lent buffer, and nothing outside it is read or written. A pointer
+ * Buffers. A pointer and the length after it are one lent buffer, and so are 25 numbers; nothing else is read or written. A pointer
  * is never null, not even where its length is 0. A buffer that is written shares no byte with another of the call.
  * Bytes may stand at any address; numbers stand where C puts a uint32_t. Sheets and job files are only read.
  *
  * No call keeps anything: there is no state, nothing is allocated or printed, and threads may call at the same time as
  * long as none writes to a buffer that another has lent.
  *
- * To link, on x86-64: cc host.c librembilung.a. From C99 or C++.
+ * To link, on x86-64: cc host.c librembilung.a. From C99 or C++. Of the C library only memcpy and its kin are asked for.
  */
 #ifndef REMBILUNG_H
 #define REMBILUNG_H
@@ -42,7 +42,7 @@ extern "C" {
 #define REMBILUNG_NUMBERS 25
 /* No job file is longer, and no report: with buffers of these sizes refusal 8 never comes. */
 #define REMBILUNG_FILE_MOST 42
-#define REMBILUNG_REPORT_MOST 167
+#define REMBILUNG_REPORT_MOST 164
 
 /* The numbers of a job in their order: numbers[REMBILUNG_BAY] is the bay. Fields count from 1 in a refusal, so field p
  * is numbers[p - 1]. Beside each: the field, its unit, its range. */
@@ -135,15 +135,15 @@ uint64_t rembilung_verdict(const uint8_t *sheet, size_t sheet_len,
                            const uint8_t *file, size_t file_len,
                            uint8_t *report, size_t report_len);
 
-/* Writes a job as a job file. numbers_len is 25; any other is refused as 8 with place 25, before all else.
+/* Writes a job, always 25 numbers, as a job file.
  * Returns the file's length, or a refusal, the first of 3, 4, 5, 8. */
-uint64_t rembilung_write_job(const uint32_t *numbers, size_t numbers_len,
+uint64_t rembilung_write_job(const uint32_t numbers[REMBILUNG_NUMBERS],
                              uint8_t *file, size_t file_len);
 
-/* Reads a job file into 25 numbers; numbers_len is 25 or more. What is read writes back as the same bytes.
- * Returns 25, or a refusal, the first of 6, 7, 3, 4, 5, 8. */
+/* Reads a job file into 25 numbers. What is read writes back as the same bytes.
+ * Returns 25, or a refusal, the first of 6, 7, 3, 4, 5. */
 uint64_t rembilung_read_job(const uint8_t *file, size_t file_len,
-                            uint32_t *numbers, size_t numbers_len);
+                            uint32_t numbers[REMBILUNG_NUMBERS]);
 
 #ifdef __cplusplus
 }

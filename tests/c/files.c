@@ -30,7 +30,7 @@ static const Damage damages[] = {
 static void refused_as(Bytes file, uint32_t refusal, uint32_t place) {
     Sheet t = sheet_t();
     expect_verdict(sheet_bytes(&t), file, REMBILUNG_REPORT_MOST, refused(refusal, place));
-    expect_read(file, REMBILUNG_NUMBERS, refused(refusal, place));
+    expect_read(file, refused(refusal, place));
 }
 
 /* How many numbers of the file end within the length. */

@@ -43,7 +43,7 @@ static void long_file(void) {
     case_begins("J's file with 4 GiB of zeros behind it");
     Answer due = refused(7, (uint32_t)own);
     result_is(rembilung_verdict(t.bytes, sizeof t.bytes, file, length, report, sizeof report), due);
-    result_is(rembilung_read_job(file, length, numbers, REMBILUNG_NUMBERS), due);
+    result_is(rembilung_read_job(file, length, numbers), due);
     munmap(file, length);
 }
 
@@ -67,21 +67,14 @@ static void long_report(void) {
     munmap(report, GIB4 + 8192);
 }
 
-static void long_buffers(void) {
+static void long_file_buffer(void) {
     File j = file_of(job_j);
     Bytes own = file_bytes(&j);
-    uint8_t *buffer = zeros(4 * GIB4 + 8192);
+    uint8_t *buffer = zeros(GIB4 + 8192);
     case_begins("J written into a file buffer of 4 GiB and 3 bytes");
-    result_is(rembilung_write_job(job_j, REMBILUNG_NUMBERS, buffer, GIB4 + 3), gives((uint32_t)own.length, own));
+    result_is(rembilung_write_job(job_j, buffer, GIB4 + 3), gives((uint32_t)own.length, own));
     begins_with(buffer, own);
-    memset(buffer, 0, own.length);
-    case_begins("J read into room for 4,294,967,299 numbers");
-    result_is(rembilung_read_job(own.at, own.length, (uint32_t *)(void *)buffer, GIB4 + 3), gives(REMBILUNG_NUMBERS, own));
-    begins_with(buffer, (Bytes){job_j, sizeof job_j});
-    memcpy(buffer, job_j, sizeof job_j);
-    case_begins("4,294,967,321 numbers to write, J's in front");
-    result_is(rembilung_write_job((uint32_t *)(void *)buffer, GIB4 + REMBILUNG_NUMBERS, j.bytes, sizeof j.bytes), refused(8, 25));
-    munmap(buffer, 4 * GIB4 + 8192);
+    munmap(buffer, GIB4 + 8192);
 }
 
 void test_great_lengths(void) {
@@ -91,5 +84,5 @@ void test_great_lengths(void) {
     sheet_of_length(GIB4 + REMBILUNG_SHEET_BYTES, 4294967295);
     long_file();
     long_report();
-    long_buffers();
+    long_file_buffer();
 }

@@ -10,8 +10,8 @@ int main() {
     uint32_t numbers[REMBILUNG_NUMBERS];
     for (int k = 0; k < REMBILUNG_SHEET_BYTES; k++)
         sheet[k] = k % 2 == 0 ? 0xE8 : 0x03;
-    uint64_t made = rembilung_write_job(job_j, REMBILUNG_NUMBERS, file, sizeof file);
-    if (rembilung_refused(made) || rembilung_read_job(file, (size_t)made, numbers, REMBILUNG_NUMBERS) != REMBILUNG_NUMBERS)
+    uint64_t made = rembilung_write_job(job_j, file, sizeof file);
+    if (rembilung_refused(made) || rembilung_read_job(file, (size_t)made, numbers) != REMBILUNG_NUMBERS)
         return 1;
     uint64_t done = rembilung_verdict(sheet, sizeof sheet, file, (size_t)made, report, sizeof report);
     return numbers[REMBILUNG_PAD_AREA] == 2000 && rembilung_refusal(done) == 0 && rembilung_place(done) == done ? 0 : 1;

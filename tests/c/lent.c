@@ -93,22 +93,22 @@ void expect_verdict(Bytes sheet, Bytes file, size_t report_length, Answer due) {
     }
 }
 
-void expect_write(const uint32_t *numbers, size_t numbers_length, size_t file_length, Answer due) {
-    Bytes given = {numbers, numbers_length * sizeof *numbers};
+void expect_write(const uint32_t *numbers, size_t file_length, Answer due) {
+    Bytes given = {numbers, REMBILUNG_NUMBERS * sizeof *numbers};
     for (int way = 0; way < WAYS; way++) {
         lend(&numbers_pen, given, given.length, way);
         lend(&file_pen, (Bytes){NULL, 0}, file_length, way);
-        result_is(rembilung_write_job((const uint32_t *)numbers_pen.at, numbers_length, file_pen.at, file_length), due);
+        result_is(rembilung_write_job((const uint32_t *)numbers_pen.at, file_pen.at, file_length), due);
         holds(&numbers_pen, given);
         holds(&file_pen, due.written);
     }
 }
 
-void expect_read(Bytes file, size_t numbers_length, Answer due) {
+void expect_read(Bytes file, Answer due) {
     for (int way = 0; way < WAYS; way++) {
         lend(&file_pen, file, file.length, way);
-        lend(&numbers_pen, (Bytes){NULL, 0}, numbers_length * sizeof(uint32_t), way);
-        result_is(rembilung_read_job(file_pen.at, file.length, (uint32_t *)numbers_pen.at, numbers_length), due);
+        lend(&numbers_pen, (Bytes){NULL, 0}, REMBILUNG_NUMBERS * sizeof(uint32_t), way);
+        result_is(rembilung_read_job(file_pen.at, file.length, (uint32_t *)numbers_pen.at), due);
         holds(&file_pen, file);
         holds(&numbers_pen, due.written);
     }

@@ -25,8 +25,8 @@ Answer refused(uint32_t refusal, uint32_t place);
 Answer gives(uint32_t length, Bytes written);
 void result_is(uint64_t result, Answer due);
 void expect_verdict(Bytes sheet, Bytes file, size_t report_length, Answer due);
-void expect_write(const uint32_t *numbers, size_t numbers_length, size_t file_length, Answer due);
-void expect_read(Bytes file, size_t numbers_length, Answer due);
+void expect_write(const uint32_t *numbers, size_t file_length, Answer due);
+void expect_read(Bytes file, Answer due);
 /* The whole call where only acceptance is known: the report that it wrote, whose length is returned, 0 on a refusal. */
 size_t expect_judged(Bytes sheet, Bytes file, uint8_t *report);
 

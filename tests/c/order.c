@@ -1,4 +1,4 @@
-/* Which refusal goes first: every set of faults that can meet in one call, and lengths of the numbers other than 25. */
+/* Which refusal goes first: every set of faults that can meet in one call. */
 #include <string.h>
 
 #include "check.h"
@@ -77,14 +77,14 @@ static void whole_call(int faults) {
                    first_due(faults, sheet_length, &file));
 }
 
-/* Reading tries 6, 7, 3, 4, 5 and then the room. */
+/* Reading tries 6, 7, 3, 4, 5. */
 static void reading(int faults) {
     Faulty file = faulty_file(faults);
-    Answer due = first_due(faults & ~SHORT, 0, &file);
+    Answer due = first_due(faults, 0, &file);
     if (due.refusal == 0)
-        due = faults & SHORT ? refused(8, REMBILUNG_NUMBERS) : gives(REMBILUNG_NUMBERS, (Bytes){single, sizeof single});
+        due = gives(REMBILUNG_NUMBERS, (Bytes){single, sizeof single});
     case_begins("read_job with faults %02x (hexadecimal)", faults);
-    expect_read((Bytes){file.bytes, file.length}, faults & SHORT ? REMBILUNG_NUMBERS - 1 : REMBILUNG_NUMBERS, due);
+    expect_read((Bytes){file.bytes, file.length}, due);
 }
 
 /* Writing tries 3, 4, 5, 8. */
@@ -97,30 +97,20 @@ static void writing(int faults) {
     if (due.refusal == 0)
         due = faults & SHORT ? refused(8, length) : gives(length, (Bytes){file.bytes, length});
     case_begins("write_job with faults %02x (hexadecimal)", faults);
-    expect_write(numbers, REMBILUNG_NUMBERS, faults & SHORT ? length - 1 : length, due);
+    expect_write(numbers, faults & SHORT ? length - 1 : length, due);
 }
 
 static void in_order(int faults) {
     if ((faults & DAMAGED) && (faults & EXTRA))
         return;
     whole_call(faults);
-    if ((faults & (LENGTH | ENTRY)) == 0)
+    if ((faults & (LENGTH | ENTRY | SHORT)) == 0)
         reading(faults);
     if ((faults & (LENGTH | ENTRY | DAMAGED | EXTRA)) == 0)
         writing(faults);
 }
 
-/* Any other length than 25 is refused before the numbers are looked at. */
-static void other_lengths(void) {
-    static const uint32_t none[60];
-    for (size_t length = 0; length <= 60; length++) {
-        case_begins("write_job of %zu numbers, all 0", length);
-        expect_write(none, length, REMBILUNG_FILE_MOST, length == REMBILUNG_NUMBERS ? refused(3, 1) : refused(8, 25));
-    }
-}
-
 void test_order(void) {
     for (int faults = 0; faults < FAULTS; faults++)
         in_order(faults);
-    other_lengths();
 }

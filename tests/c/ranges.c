@@ -38,8 +38,8 @@ static Job with(Job job, int field, uint32_t value) {
 static void job_refused(Job job, uint32_t refusal, uint32_t place) {
     Sheet t = sheet_t();
     File file = file_of(job.numbers);
-    expect_write(job.numbers, REMBILUNG_NUMBERS, REMBILUNG_FILE_MOST, refused(refusal, place));
-    expect_read(file_bytes(&file), REMBILUNG_NUMBERS, refused(refusal, place));
+    expect_write(job.numbers, REMBILUNG_FILE_MOST, refused(refusal, place));
+    expect_read(file_bytes(&file), refused(refusal, place));
     expect_verdict(sheet_bytes(&t), file_bytes(&file), REMBILUNG_REPORT_MOST, refused(refusal, place));
 }
 
@@ -48,8 +48,8 @@ static void job_accepted(Job job) {
     Sheet t = sheet_t();
     File file = file_of(job.numbers);
     Bytes bytes = file_bytes(&file), numbers = {job.numbers, sizeof job.numbers};
-    expect_write(job.numbers, REMBILUNG_NUMBERS, bytes.length, gives((uint32_t)bytes.length, bytes));
-    expect_read(bytes, REMBILUNG_NUMBERS, gives(REMBILUNG_NUMBERS, numbers));
+    expect_write(job.numbers, bytes.length, gives((uint32_t)bytes.length, bytes));
+    expect_read(bytes, gives(REMBILUNG_NUMBERS, numbers));
     expect_judged(sheet_bytes(&t), bytes, report);
 }
 

@@ -54,10 +54,8 @@ static Answer read_due(const Vector *vector) {
 }
 
 static void read_back(const Vector *vector) {
-    for (size_t length = 0; length <= REMBILUNG_NUMBERS + BEYOND; length++) {
-        case_begins("%s:%d: read_job, room for %zu numbers", vector->from, vector->line, length);
-        expect_read(vector->file, length, due_in(read_due(vector), length));
-    }
+    case_begins("%s:%d: read_job", vector->from, vector->line);
+    expect_read(vector->file, read_due(vector));
 }
 
 static Answer write_due(const Vector *vector) {
@@ -67,7 +65,7 @@ static Answer write_due(const Vector *vector) {
 static void written(const Vector *vector) {
     for (size_t length = 0; length <= REMBILUNG_FILE_MOST + BEYOND; length++) {
         case_begins("%s:%d: write_job, file buffer of %zu", vector->from, vector->line, length);
-        expect_write(vector->numbers, REMBILUNG_NUMBERS, length, due_in(write_due(vector), length));
+        expect_write(vector->numbers, length, due_in(write_due(vector), length));
     }
 }
 
@@ -76,13 +74,13 @@ static void round_trip(const Vector *vector) {
     uint8_t file[REMBILUNG_FILE_MOST] = {0};
     uint32_t numbers[REMBILUNG_NUMBERS];
     case_begins("%s:%d: write_job then read_job", vector->from, vector->line);
-    uint64_t wrote = rembilung_write_job(vector->numbers, REMBILUNG_NUMBERS, file, sizeof file);
-    uint64_t read = rembilung_read_job(file, wrote < sizeof file ? (size_t)wrote : sizeof file, numbers, REMBILUNG_NUMBERS);
+    uint64_t wrote = rembilung_write_job(vector->numbers, file, sizeof file);
+    uint64_t read = rembilung_read_job(file, wrote < sizeof file ? (size_t)wrote : sizeof file, numbers);
     if (read != REMBILUNG_NUMBERS || memcmp(numbers, vector->numbers, sizeof numbers) != 0)
         differs("the job that was written is not the job that is read");
     case_begins("%s:%d: read_job then write_job", vector->from, vector->line);
-    read = rembilung_read_job(vector->file.at, vector->file.length, numbers, REMBILUNG_NUMBERS);
-    wrote = rembilung_write_job(numbers, REMBILUNG_NUMBERS, file, sizeof file);
+    read = rembilung_read_job(vector->file.at, vector->file.length, numbers);
+    wrote = rembilung_write_job(numbers, file, sizeof file);
     if (read != REMBILUNG_NUMBERS || wrote != vector->file.length || memcmp(file, vector->file.at, (size_t)wrote) != 0)
         differs("the file that was read is not the file that is written");
 }
