@@ -1,0 +1,4 @@
+pub mod Returned
+pub mod Ways
+pub mod Shown
+pub mod Demands

@@ -1,0 +1,48 @@
+-- What the calls return, by the case of the answer below them.
+-- Assumes nothing.
+use mathlib.Core.Path.{_≡_, sym, ap}
+use mathlib.Core.List.{List}
+use Prim.Native.Nat.{ℕ}
+use borrow.Author.Tests.{eq-eqb, ne-eqb}
+use Rattle.basis.specs.Refusal.{number}
+use Rattle.basis.specs.declared.Refusal.{Refusal}
+use Rattle.job.specs.declared.Job.{Job}
+use Rattle.job.specs.Job.{numbers}
+use Rattle.jobfile.specs.declared.ReadJob.{ReadJob}
+use Rattle.jobfile.specs.declared.ReadJob.the-variants.{Accepted, Refused}
+use Rattle.jobfile.specs.declared.Written.{Written}
+use Rattle.jobfile.specs.declared.Written.the-variants as Written
+use Rattle.report.specs.declared.Written as Report
+use Rattle.rembilung.specs.Code.{code, writtenCode, readCode, readNumbers, reportCode}
+
+pub written-length : {w : Written} {n : ℕ} → w ≡ Written.Length n → n ≡ writtenCode w
+unfolding writtenCode
+written-length e = ap writtenCode (sym e)
+
+pub written-refused : {w : Written} {r : Refusal} → w ≡ Written.Refused r → code r ≡ writtenCode w
+unfolding writtenCode
+written-refused e = ap writtenCode (sym e)
+
+pub read-accepted : {a : ReadJob} {j : Job} → a ≡ Accepted j → 25 ≡ readCode a
+unfolding readCode
+read-accepted e = ap readCode (sym e)
+
+pub numbers-accepted : {a : ReadJob} {j : Job} (before : List ℕ) → a ≡ Accepted j → numbers j ≡ readNumbers a before
+unfolding readNumbers
+numbers-accepted before e = ap (λ a. readNumbers a before) (sym e)
+
+pub read-refused : {a : ReadJob} {r : Refusal} → a ≡ Refused r → code r ≡ readCode a
+unfolding readCode
+read-refused e = ap readCode (sym e)
+
+pub numbers-refused : {a : ReadJob} {r : Refusal} (before : List ℕ) → a ≡ Refused r → before ≡ readNumbers a before
+unfolding readNumbers
+numbers-refused before e = ap (λ a. readNumbers a before) (sym e)
+
+pub report-done : (w : Report.Written) → number (w .refusal) ≡ 0 → w .length ≡ reportCode w
+unfolding reportCode
+report-done w h = simp (eq-eqb (number (w .refusal)) 0 h)
+
+pub report-refused : (w : Report.Written) → (number (w .refusal) ≡ 0 → ⊥) → code (w .refusal) ≡ reportCode w
+unfolding reportCode
+report-refused w h = simp (ne-eqb (number (w .refusal)) 0 h)

@@ -1,0 +1,4 @@
+pub mod Code
+pub mod Call
+pub mod Shown
+pub mod Demands
