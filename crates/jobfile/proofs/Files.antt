@@ -37,7 +37,7 @@ values-back (n ∷ ns) rest w =
     (ap (λ (t : List ℕ). n ∷ t) (values-back ns rest (w .1)))
 
 -- by the two cases of a number
-decoded : {A : Type 0} (d : Decoded) → ((v k : ℕ) → d ≡ Number v k → A) → (d ≡ Malformed → A) → A
+pub decoded : {A : Type 0} (d : Decoded) → ((v k : ℕ) → d ≡ Number v k → A) → (d ≡ Malformed → A) → A
 decoded (Number v k) f g = f v k refl
 decoded Malformed f g = g refl
 

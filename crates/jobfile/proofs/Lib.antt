@@ -7,3 +7,4 @@ pub mod Numbers
 pub mod Sizes
 pub mod Files
 pub mod RoundTrip
+pub mod Beginning

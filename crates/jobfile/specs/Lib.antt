@@ -4,3 +4,4 @@ pub mod Read
 pub mod Write
 pub mod RoundTrip
 pub mod Marked
+pub mod Beginning

@@ -6,6 +6,7 @@ ghost use lib.ListN.{length, drop};
 ghost use Rattle.jobfile.specs.Encode.{encode, encodeAll};
 ghost use Rattle.jobfile.specs.Decode.{Bounded, lastGroup, extend, limit, laterGroups, decode};
 ghost use Rattle.jobfile.specs.Read.{extra, numbersIn, jobIn};
+ghost use Rattle.jobfile.specs.Beginning.{beginningLength};
 ghost use Rattle.jobfile.specs.Write.{greatestLength, writtenOr, answer, written};
 use basis::Refusal;
 use basis::first_of;
@@ -24,6 +25,16 @@ pub fn greatest_length() -> usize
     ensures { λ r. ⌜ r ≡ greatestLength ⌝ }
 {
     GREATEST_LENGTH
+}
+
+// How much of a file decides what is read: a reader may pass that many of its first bytes for the whole.
+pub const BEGINNING_LENGTH: usize = 126;
+
+// The same, by a call.
+pub fn beginning_length() -> usize
+    ensures { λ r. ⌜ r ≡ beginningLength ⌝ }
+{
+    BEGINNING_LENGTH
 }
 
 // A number at the front of some bytes: its value and how many bytes it takes; or none in its shortest form.
