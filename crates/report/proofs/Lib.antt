@@ -2,6 +2,7 @@ pub mod Digits
 pub mod Stores
 pub mod Numbers
 pub mod Put
+pub mod Refused
 pub mod CheckLines
 pub mod LineLengths
 pub mod Outcome

@@ -3,3 +3,4 @@ pub mod Report
 pub mod Put
 pub mod Greatest
 pub mod Marked
+pub mod Refused

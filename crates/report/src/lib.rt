@@ -17,6 +17,7 @@ use judge::Judgement;
 
 mod lengths;
 mod lines;
+pub mod refusal;
 mod text;
 
 // No report of an accepted job is longer, and one is as long.

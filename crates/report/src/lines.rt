@@ -5,9 +5,9 @@ use crate::text::put_number;
 use crate::text::put_word;
 use section5::heights::Height;
 
-const SPACE: u8 = 32;
+pub(crate) const SPACE: u8 = 32;
 
-const LINE_END: u8 = 10;
+pub(crate) const LINE_END: u8 = 10;
 
 fn put_check(out: &mut [u8], at: usize, check: u64, verdict: u64, figure: u64) -> usize
     requires { ⌜ Room at (checkLine check verdict figure) (now out) ⌝ }

@@ -1,0 +1,17 @@
+// The line of a refusal, at the front of a buffer.
+ghost use mathlib.Core.Path.{_≡_};
+ghost use lib.ListN.{length};
+ghost use Rattle.report.specs.Refused.{refusedLine, writtenOver};
+use crate::lines::LINE_END;
+use crate::lines::SPACE;
+use crate::text::put_number;
+use crate::text::put_word;
+
+// Writes the line of a refusal, for which the buffer has room whatever the numbers, and gives its length.
+pub fn write_refused(number: u64, place: u64, out: &mut [u8; 192]) -> usize
+    ensures { λ r. ⌜ (r ≡ length (refusedLine number place)) × (now (out .exit) ≡ writtenOver (refusedLine number place) (now (out .entry))) ⌝ }
+{
+    let second = put_word(out, 0, b"refused ");
+    let third = put_number(out, second, number, SPACE);
+    put_number(out, third, place, LINE_END)
+}
