@@ -1,0 +1,35 @@
+-- What the program prints, by definition over the bytes of column.dat and of standard input.
+-- Assumes nothing.
+use Prim.Native.Nat.{ℕ, min}
+use mathlib.Core.Path.{_≡_}
+use mathlib.Core.List.{List}
+use lib.Dec.{eqb}
+use lib.ListN.{length, take, replicate}
+use Rattle.basis.specs.Choice.{pick}
+use Rattle.basis.specs.Refusal.{number, place}
+use Rattle.basis.specs.declared.Refusal.{Refusal}
+use Rattle.basis.specs.declared.Refusal.the-variants.{SheetLength}
+use Rattle.jobfile.specs.Beginning.{beginningLength}
+use Rattle.rembilung.specs.Call.{text, callRefusal}
+use Rattle.report.specs.Refused.{refusedLine}
+
+-- the line of a refusal, a place above 4,294,967,295 being given as that
+unfoldable pub line : Refusal → List ℕ
+line refusal = refusedLine (number refusal) (min (place refusal) 4294967295)
+
+-- what is refused by the whole call, whose buffer has 192 bytes
+unfoldable pub refusalOf : List ℕ → List ℕ → Refusal
+refusalOf sheet file = callRefusal sheet file (replicate 192 0)
+
+-- the report, or the line of the refusal
+unfoldable pub printed : List ℕ → List ℕ → List ℕ
+printed sheet file = pick (eqb (number (refusalOf sheet file)) 0) (text sheet file) (line (refusalOf sheet file))
+
+-- the same from a sheet's length, its first bytes and the file: another length than 502 bytes is refused before anything else
+unfoldable pub printedFrom : ℕ → List ℕ → List ℕ → List ℕ
+printedFrom n sheet file = pick (eqb n 502) (printed sheet file) (line (SheetLength n))
+
+-- a program may hold 502 bytes of column.dat and the beginning of standard input, and count the sheet's length to 4,294,967,295
+pub record Bounded : Type 0 where
+  pub enough : (n : ℕ) (sheet file : List ℕ) → min n 4294967295 ≡ min (length sheet) 4294967295
+      → printedFrom n (take 502 sheet) (take beginningLength file) ≡ printed sheet file

@@ -1,0 +1,4 @@
+// verdict on a sheet whose last entry is too small.
+fn main() {
+    console::run();
+}

@@ -1,0 +1,4 @@
+// verdict on a field outside its range.
+fn main() {
+    console::run();
+}

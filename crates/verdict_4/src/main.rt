@@ -1,0 +1,4 @@
+// verdict on fields that contradict each other.
+fn main() {
+    console::run();
+}

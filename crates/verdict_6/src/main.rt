@@ -1,0 +1,4 @@
+// verdict on a job file that is cut off.
+fn main() {
+    console::run();
+}

@@ -1,0 +1,4 @@
+// verdict with a column.dat longer than its buffers.
+fn main() {
+    console::run();
+}

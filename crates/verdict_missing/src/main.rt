@@ -1,0 +1,4 @@
+// verdict without a column.dat.
+fn main() {
+    console::run();
+}

@@ -1,0 +1,70 @@
+"""The cases of the program verdict: what stands in column.dat and comes on standard input, and what is printed.
+
+What is printed was worked out by hand from document 01, not taken from the program.
+"""
+
+# job J, its fields by number from 1
+J = [1, 1, 105, 150, 180, 2, 3000, 3, 4, 2, 3000, 5000, 0, 300, 300, 1000, 1, 200, 1, 240, 1, 8000, 4, 200, 2000]
+
+# document 01: the whole report of job J under sheet T
+REPORT = """1 1 477521
+2 1 1584
+3 1 571785
+4 1 2777
+5 1 4160
+6 1 171
+7 1 20093
+8 0 19030
+9 1 5953
+10 1 20093
+11 2 20093
+height 3210 3110
+wind 42 24291
+column 198
+"""
+
+def groups(n):
+    return bytes([n]) if n < 128 else bytes([n % 128 + 128]) + groups(n // 128)
+
+def job(**changed):
+    fields = {f"field{k}": n for k, n in enumerate(J, 1)} | changed
+    return b"".join(groups(n) for n in fields.values())
+
+def sheet_bytes(entries):
+    return b"".join(n.to_bytes(2, "little") for n in entries)
+
+T = [max(1000 - 4 * k, 150) for k in range(251)]
+SHEET = sheet_bytes(T)
+FILE = job()  # 38 bytes
+LONGEST = groups(4294967295) * 25  # five bytes each
+
+# crate: column.dat (None: missing), standard input, standard output
+STORED = {
+    "verdict": (SHEET, FILE, REPORT),
+    # 1: the length of column.dat in bytes, whatever else is wrong
+    "verdict_missing": (None, b"", "refused 1 0\n"),
+    "verdict_short": (SHEET[:501], FILE, "refused 1 501\n"),
+    "verdict_long": (SHEET + bytes(4498), FILE, "refused 1 5000\n"),
+    # 2: entry 250 may be 117 and not 116; it comes before 6
+    "verdict_2": (sheet_bytes(T[:250] + [116]), b"", "refused 2 250\n"),
+    # 3: the strength of the ground is from 10 on
+    "verdict_3": (SHEET, job(field24=9), "refused 3 24\n"),
+    # 4: five working layers of four boarded ones
+    "verdict_4": (SHEET, job(field10=5), "refused 4 10\n"),
+    # 5: a single row on a wall of 180 mm
+    "verdict_5": (SHEET, job(field1=2, field7=2400, field20=180), "refused 5 20\n"),
+    # 6: the last number, of two bytes at offset 36, is cut off
+    "verdict_6": (SHEET, FILE[:-1], "refused 6 36\n"),
+    # 7: thousands of bytes after 25 numbers
+    "verdict_7": (SHEET, LONGEST + bytes(5000), "refused 7 125\n"),
+}
+
+# the same, without a crate of its own
+MORE = {
+    "empty column.dat": (b"", FILE, "refused 1 0\n"),
+    "one byte of column.dat too many": (SHEET + b"\0", FILE, "refused 1 503\n"),
+    "column.dat of megabytes": (bytes(3000001), FILE, "refused 1 3000001\n"),
+    "one byte after job J": (SHEET, FILE + b"\0", "refused 7 38\n"),
+    "25 numbers of five bytes": (SHEET, LONGEST, "refused 3 1\n"),
+    "no standard input": (SHEET, b"", "refused 6 0\n"),
+}
