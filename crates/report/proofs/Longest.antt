@@ -1,23 +1,23 @@
 -- No report of an accepted job is longer than the greatest length, and one is as long.
 -- Assumes nothing.
 use mathlib.Core.Path.{_≡_, refl}
-use mathlib.Core.Bool.{Bool, true, false}
+use mathlib.Core.Bool.{true, false}
 use mathlib.Core.List.{List}
 use Prim.Native.Nat.{ℕ, zero, suc, _+_, _*_, _≤_, _<_}
-use native.Mathlib.Nat.{le-refl, le-trans, min-le-left}
+use native.Mathlib.Nat.{le-refl, le-trans}
 use native.Mathlib.Omega.{arith}
-use lib.Dec.{T, ltb, lit<, lit≤}
+use lib.Dec.{T, ltb}
 use lib.ListN.{length, length-append}
-use borrow.Author.Tests.{lt-ltb, ltb-true, ltb-false}
-use Rattle.basis.specs.Choice.{pick, both, either}
+use borrow.Author.Tests.{ltb-true, ltb-false}
+use Rattle.basis.specs.Choice.{both, either}
 use Rattle.basis.specs.Fraction.{ceil, _≼_, up, down}
 use Rattle.basis.proofs.Tests.{cases, holds, both-right}
 use Rattle.basis.proofs.Searches.{top-le}
 use Rattle.job.specs.declared.Job.{Job}
 use Rattle.job.specs.Bounds.{Bounds}
 use Rattle.job.proofs.Bounds.{bounds}
-use Rattle.section5.specs.declared.heights.Height.the-variants.{None, At}
-use Rattle.section5.specs.Section5.{verdict, paper}
+use Rattle.section5.specs.declared.heights.Height.the-variants.{At}
+use Rattle.section5.specs.Section5.{paper}
 use Rattle.section5.specs.Whole as W
 use Rattle.section5.proofs.Most as Most
 use Rattle.section5.proofs.Same.{poles-same}
@@ -26,82 +26,21 @@ use Rattle.judge.specs.Marked.{examined}
 use Rattle.judge.specs.Whole as A
 use Rattle.judge.proofs.Ways.{sheet-stands, job-stands}
 use Rattle.judge.proofs.Demand.{whole, height-is, demand3}
-use Rattle.report.specs.Digits.{digitsWithin, digits}
-use Rattle.report.specs.Report.{checkLines, heights, lastHeight, heightLine, lines, report}
+use Rattle.report.specs.Digits.{digits}
+use Rattle.report.specs.Report.{heightLine, lines, report}
 use Rattle.report.specs.Greatest.{greatest, reportLength, fullSheet, longest, Greatest}
-use Rattle.report.proofs.Digits.{bound, one-length}
-use Rattle.report.proofs.Numbers.{number-length}
-use Rattle.report.proofs.LineLengths.{check-line-length, wind-line-length, column-line-length}
-use Rattle.report.proofs.Widths.{width, wk-low, mw-low, tieForce-low}
+use Rattle.report.proofs.Digits.{bound}
+use Rattle.report.proofs.LineLengths.{height-line-length, none-length, wind-line-length, column-line-length}
+use Rattle.report.proofs.Widths.{width, checks-most, force-width, tie-width, wind-width, moment-width, column-width, wk-low, mw-low, tieForce-low}
 use Rattle.report.proofs.Standing.{moment-most, moment-small, wind-small}
 
-verdict-width : (b : Bool) → length (digits (verdict b)) ≡ 1
-verdict-width true = one-length 1 (lit< tt)
-verdict-width false = one-length 2 (lit< tt)
-
-due-width : (n b : Bool) → length (digits (pick n 0 (verdict b))) ≡ 1
-due-width true b = one-length 0 (lit< tt)
-due-width false b = verdict-width b
-
--- the digits of the eleven checks' numbers
-numbers-width : length (digits 1) + length (digits 2) + length (digits 3) + length (digits 4) + length (digits 5) + length (digits 6) + length (digits 7) + length (digits 8) + length (digits 9) + length (digits 10) + length (digits 11) ≡ 13
-unfolding digitsWithin digits
-numbers-width = refl
-
-height-line-length : (H P : ℕ) → length (heightLine (At H) (At P)) ≡ length (digits H) + length (digits P) + 9
-unfolding heightLine heights lastHeight
-height-line-length H P = simp (length-append, number-length) (omega arith)
-
-none-length : length (heightLine None None) ≡ 12
-unfolding heightLine heights
-none-length = refl
-
--- a permitted height is no greater than a stability height below 26 m
-permitted-low : (f H : ℕ) → H < 2600 → W.permitted f H ≤ H
-unfolding W.permitted
-permitted-low f H h = le-trans (min-le-left _ (W.heightLimit f)) (rw (lt-ltb H 2600 h) (le-refl H))
-
-module _ (s : List ℕ) (j : Job) (r : Bounds j) where
-  checks-most : length (checkLines 1 (W.verdicts (W.poleOf s j) j) (W.figures (W.poleOf s j) j)) ≤ 95 + 3 * length (digits (W.force (W.poleOf s j) (j .height))) + length (digits (W.tieForce j))
-  unfolding checkLines W.verdicts W.figures bound
-  checks-most =
-      let n = numbers-width in
-      let f1 = width 6 4400000 tt (Most.transomMoment-most r) in
-      let f2 = width 4 99999 tt (Most.transomDeflection-most r) in
-      let f3 = width 6 5000000 tt (Most.ledgerMoment-most r) in
-      let f4 = width 4 99999 tt (Most.ledgerDeflection-most r) in
-      let f5 = width 4 26000 tt (Most.slip-most r) in
-      let f6 = width 2 999 tt (Most.slenderness-most r) in
-      let f8 = width 5 142000 tt (Most.forceWind-own-most r s) in
-      simp (length-append, check-line-length, verdict-width, due-width) (omega arith)
-
-  force-width : length (digits (W.force (W.poleOf s j) (j .height))) ≤ 6
-  unfolding bound
-  force-width = width 5 142000 tt (Most.force-own-most r s)
-
-  tie-width : length (digits (W.tieForce j)) ≤ 6
-  unfolding bound
-  tie-width = width 5 900000 tt (Most.tieForce-most r)
-
-  wind-width : length (digits (W.wk j)) ≤ 5
-  unfolding bound
-  wind-width = width 4 17472 tt (Most.wk-most r)
-
-  moment-width : length (digits (W.mw j)) ≤ 8
-  unfolding bound
-  moment-width = width 7 17000000 tt (Most.mw-most r)
-
-  column-width : length (digits (W.columnSlenderness j)) ≤ 3
-  unfolding bound
-  column-width = width 2 293 tt (Most.columnSlenderness-most r)
-
 module _ (s : List ℕ) (j : Job) (a : Accepted s j) where
-  r : Bounds j
-  r = bounds j (job-stands s j a)
+  ranges : Bounds j
+  ranges = bounds j (job-stands s j a)
 
   -- the bytes of a report that vary most: the digits of N, tie force, wk and Mw, and the heights, of which there are n
-  abbrev spread : ℕ → ℕ
-  spread n =
+  abbrev varying : ℕ → ℕ
+  varying n =
       3 * length (digits (W.force (W.poleOf s j) (j .height)))
       + length (digits (W.tieForce j))
       + length (digits (W.wk j))
@@ -128,23 +67,23 @@ module _ (s : List ℕ) (j : Job) (a : Accepted s j) where
     unfolding bound
     height-narrow l =
         let k : H ≤ 999 = omega arith in
-        rw height-line-length (omega (arith, width 2 999 tt k, width 2 999 tt (le-trans (permitted-low (j .family) H (omega arith)) k)))
+        rw height-line-length (omega (arith, width 2 999 tt k, width 2 999 tt (le-trans (Most.permitted-low (j .family) H (omega arith)) k)))
 
     -- check 8 is due, and passes at H
     module _ (t : T (W.check8 (W.poleOf s j) H)) where
-      moment-seven : length (digits (W.mw j)) ≤ 7
+      moment-narrow : length (digits (W.mw j)) ≤ 7
       unfolding bound
-      moment-seven = width 6 1100000 tt (moment-most s j (sheet-stands s j a) r H t)
+      moment-narrow = width 6 1100000 tt (moment-most s j (sheet-stands s j a) ranges H t)
 
-      spread-high : 1000 ≤ H → spread (suc H) ≤ 51
+      varying-high : 1000 ≤ H → varying (suc H) ≤ 51
       unfolding bound
-      spread-high l =
+      varying-high l =
           cases (ltb N 100000)
-          (λ e. omega (arith, moment-seven, height-width, tie-width s j r, wind-width s j r, width 4 99999 tt (below e)))
+          (λ e. omega (arith, moment-narrow, height-width, tie-width s j ranges, wind-width s j ranges, width 4 99999 tt (below e)))
           (λ e.
-          let m = moment-small s j (sheet-stands s j a) r H t l (ltb-false N 100000 e) in
-          let w = wind-small s j (sheet-stands s j a) r H t l (ltb-false N 100000 e) in
-          omega (arith, height-width, force-width s j r, tie-width s j r, width 5 377000 tt m, width 3 9999 tt w))
+          let m = moment-small s j (sheet-stands s j a) ranges H t l (ltb-false N 100000 e) in
+          let w = wind-small s j (sheet-stands s j a) ranges H t l (ltb-false N 100000 e) in
+          omega (arith, height-width, force-width s j ranges, tie-width s j ranges, width 5 377000 tt m, width 3 9999 tt w))
         where
           N : ℕ
           N = W.force (W.poleOf s j) (j .height)
@@ -152,26 +91,26 @@ module _ (s : List ℕ) (j : Job) (a : Accepted s j) where
           below : ltb N 100000 ≡ true → N ≤ 99999
           below e = omega (arith, ltb-true N 100000 e)
 
-      spread-due : spread (suc H) ≤ 51
-      spread-due =
+      varying-due : varying (suc H) ≤ 51
+      varying-due =
           cases (ltb H 1000)
-          (λ e. omega (arith, moment-seven, height-narrow (ltb-true H 1000 e), force-width s j r, tie-width s j r, wind-width s j r))
-          (λ e. spread-high (ltb-false H 1000 e))
+          (λ e. omega (arith, moment-narrow, height-narrow (ltb-true H 1000 e), force-width s j ranges, tie-width s j ranges, wind-width s j ranges))
+          (λ e. varying-high (ltb-false H 1000 e))
 
-    spread-calm : T (W.notDue j) → spread (suc H) ≤ 51
+    varying-not-due : T (W.notDue j) → varying (suc H) ≤ 51
     unfolding bound
-    spread-calm c =
-        omega (arith, height-width, force-width s j r, width 4 87320 tt (tieForce-low r c), width 3 1960 tt (wk-low r c), width 6 1865920 tt (mw-low r c))
+    varying-not-due c =
+        omega (arith, height-width, force-width s j ranges, width 4 87320 tt (tieForce-low ranges c), width 3 1960 tt (wk-low ranges c), width 6 1865920 tt (mw-low ranges c))
 
-  spread-most : (n : ℕ) → W.heightCount (W.poleOf s j) (W.notDue j) ≡ n → spread n ≤ 51
-  spread-most zero e = omega (arith, none-length, force-width s j r, tie-width s j r, wind-width s j r, moment-width s j r)
-  spread-most (suc H) e = cases (W.notDue j) (λ d. spread-calm H e (holds d)) (λ d. spread-due H e (height-passes H e d))
+  varying-most : (n : ℕ) → W.heightCount (W.poleOf s j) (W.notDue j) ≡ n → varying n ≤ 51
+  varying-most zero e = omega (arith, none-length, force-width s j ranges, tie-width s j ranges, wind-width s j ranges, moment-width s j ranges)
+  varying-most (suc H) e = cases (W.notDue j) (λ d. varying-not-due H e (holds d)) (λ d. varying-due H e (height-passes H e d))
 
   no-longer : reportLength s j ≤ greatest
   unfolding report A.judgement
   no-longer =
       rw (whole s j a)
-      (simp (length-append, wind-line-length, column-line-length) (omega (arith, checks-most s j r, column-width s j r, spread-most _ refl)))
+      (simp (length-append, wind-line-length, column-line-length) (omega (arith, checks-most s j ranges, column-width s j ranges, varying-most _ refl)))
 
 reached : Accepted fullSheet longest × (reportLength fullSheet longest ≡ greatest)
 unfolding Accepted examined fullSheet longest paper both either ceil _≼_ up down judgement answer lines report

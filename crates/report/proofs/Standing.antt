@@ -1,11 +1,10 @@
 -- What it means that check 8 is due and passes at some height: a small moment beside the force, and a smaller one beside a great force.
 -- Assumes nothing.
-use mathlib.Core.Path.{_≡_}
 use mathlib.Core.List.{List}
 use Prim.Native.Nat.{ℕ, _+_, _*_, _≤_, _<_}
-use native.Mathlib.Nat.{le-refl, le-trans, mul-le-mul, le-of-mul-le-mul-left}
+use native.Mathlib.Nat.{le-refl, mul-le-mul, le-of-mul-le-mul-left}
 use native.Mathlib.Omega.{arith}
-use lib.Dec.{T, leb, eqb, leb→le, lit<, lit≤}
+use lib.Dec.{T, leb, eqb, leb→le}
 use borrow.Author.Tests.{leb-true, leb-false}
 use Rattle.basis.specs.Fraction.{ceil}
 use Rattle.basis.proofs.Order.{mono}
@@ -13,35 +12,23 @@ use Rattle.basis.proofs.Tests.{cases}
 use Rattle.job.specs.declared.Job.{Job}
 use Rattle.job.specs.Bounds.{Bounds}
 use Rattle.sheet.specs.Sheet.{Stands}
-use Rattle.sheet.specs.Factor.{over, under}
-use Rattle.sheet.proofs.Falls.{entry-pos, entry-most}
-use Rattle.section5.specs.Whole.{area, modulus, deck, fittings, live, poleOf, force, forceWind, wk, mw, bends, check8}
+use Rattle.sheet.proofs.Falls.{factor-within}
+use Rattle.section5.specs.Whole.{area, modulus, fittings, live, columnSlenderness, poleOf, force, forceWind, wk, mw, bends, check8}
 use Rattle.section5.proofs.Most.{board-most, rail-most, deck-most, live-below}
 
--- a stability factor is above 0, and at most 1
-record Factor (o u : ℕ) : Type 0 where
-  above : 0 < o
-  most : o ≤ u
-
-factor-is : (s : List ℕ) → Stands s → (z : ℕ) → Factor (over s z) (under z)
-unfolding over under
-factor-is s h z =
-    cases (leb z 250) (λ e. let l = leb-true z 250 e in rw e (record { above = entry-pos s h z l; most = entry-most s h z l }))
-    (λ e. let l : 251 * 251 ≤ z * z = search (mono, leb-false z 250 e) in rw e (omega arith))
-
 -- Nw / A + Mw / W is at most f, where φ is at most 1
-bends-most : (n m o u a w : ℕ) → Factor o u → T (bends n m o u a w) → n * w + m * a ≤ 205 * a * w
+bends-most : (n m o u a w : ℕ) → 0 < o → o ≤ u → T (bends n m o u a w) → n * w + m * a ≤ 205 * a * w
 unfolding bends
-bends-most n m o u a w f t =
+bends-most n m o u a w p q t =
     let b = leb→le (n * u * w + m * o * a) (205 * o * a * w) t in
-    let l : n * o * w ≤ n * u * w = search (mono, f .most) in
+    let l : n * o * w ≤ n * u * w = search mono in
     let z : o * (n * w + m * a) ≤ o * (205 * a * w) = omega arith in
-    le-of-mul-le-mul-left z (f .above)
+    le-of-mul-le-mul-left z p
 
 module _ (s : List ℕ) (j : Job) (h : Stands s) (r : Bounds j) (H : ℕ) (t : T (check8 (poleOf s j) H)) where
   stress : forceWind (poleOf s j) H * modulus (j .tube) + mw j * area (j .tube) ≤ 205 * area (j .tube) * modulus (j .tube)
   unfolding check8 poleOf
-  stress = bends-most _ _ _ _ _ _ (factor-is s h _) t
+  stress = let f = factor-within s h (columnSlenderness j) in bends-most _ _ _ _ _ _ (f .0) (f .1) t
 
   pub moment-most : mw j ≤ 1100000
   moment-most =

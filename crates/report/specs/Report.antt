@@ -87,5 +87,5 @@ outcome g out =
     record { refusal = TooShort (length (report g)); length = 0 }
 
 -- and what it leaves in the buffer: the report and every later byte as it was, or every byte as it was
-unfoldable pub left : Judgement → List ℕ → List ℕ
-left g out = pick (leb (length (report g)) (length out)) (report g ++ drop (length (report g)) out) out
+unfoldable pub leaves : Judgement → List ℕ → List ℕ
+leaves g out = pick (leb (length (report g)) (length out)) (report g ++ drop (length (report g)) out) out

@@ -1,7 +1,7 @@
 // The report of a judgement: its length, and its bytes in the caller's buffer.
 ghost use mathlib.Core.Path.{_≡_};
 ghost use lib.ListN.{length as List·length};
-ghost use Rattle.report.specs.Report.{report, outcome, left};
+ghost use Rattle.report.specs.Report.{report, outcome, leaves};
 ghost use Rattle.report.specs.Greatest.{greatest};
 ghost use Rattle.report.specs.Put.{Room, Put};
 use crate::lengths::checks_length;
@@ -66,7 +66,7 @@ fn put_report(out: &mut [u8], g: Judgement) -> usize
 
 // Refuses a buffer that is too short (8), or writes the report at its front.
 pub fn write(g: Judgement, out: &mut [u8]) -> Written
-    ensures { λ r. ⌜ (r ≡ outcome g (now (out .entry))) × (now (out .exit) ≡ left g (now (out .entry))) ⌝ }
+    ensures { λ r. ⌜ (r ≡ outcome g (now (out .entry))) × (now (out .exit) ≡ leaves g (now (out .entry))) ⌝ }
 {
     let needed = length(g);
     if out.len() < needed {

@@ -10,7 +10,8 @@ use lib.ListN.{length, getD}
 use lib.Dec.{T, leb, eqb, leb→le, eqb→eq, lit<, lit≤}
 use borrow.Author.Tests.{leb-true, leb-false}
 use Rattle.basis.specs.Choice.{pick, both, either, within}
-use Rattle.basis.proofs.Tests.{both-left, both-right, either-elim, within-le}
+use Rattle.basis.proofs.Order.{mono}
+use Rattle.basis.proofs.Tests.{cases, both-left, both-right, either-elim, within-le}
 use Rattle.basis.proofs.Searches.{firstFail-none}
 use Rattle.basis.proofs.Refusals.{unless-pass}
 use Rattle.sheet.specs.Sheet.{entryStands, fault, examination, Stands}
@@ -62,6 +63,13 @@ module _ (s : List ℕ) (h : Stands s) where
 
   pub entry-falls : {i k : ℕ} → i ≤ k → k ≤ 250 → getD s k 0 ≤ getD s i 0
   entry-falls {i} {k} l m = rw (add-sub-of-le l) at (entry-after (k - i) i (omega (arith, add-sub-of-le l)))
+
+  -- the stability factor is above 0, and at most 1
+  pub factor-within : (z : ℕ) → (0 < over s z) × (over s z ≤ under z)
+  unfolding over under
+  factor-within z =
+      cases (leb z 250) (λ e. let l = leb-true z 250 e in rw e (entry-pos z l, entry-most z l))
+      (λ e. let l : 251 * 251 ≤ z * z = search (mono, leb-false z 250 e) in rw e (omega arith))
 
 -- o′ / u′ is a factor above 0, and no greater than o / u
 pub record Weaker (o u o′ u′ : ℕ) : Type 0 where

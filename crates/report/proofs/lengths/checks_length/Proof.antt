@@ -1,5 +1,5 @@
 -- `checks_length` meets its contract. The invariant: with the lines of the checks from i on, the sum is that of all. Assumes nothing.
-use mathlib.Core.Path.{_≡_, ap}
+use mathlib.Core.Path.{_≡_}
 use Prim.Native.Nat.{_+_, _-_, _*_, _≤_}
 use native.Mathlib.Omega.{arith}
 use lib.ListN.{length, drop, length-append}
