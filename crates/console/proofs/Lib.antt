@@ -1,2 +1,2 @@
 pub mod Returned
-pub mod Bounded
+pub mod Beginnings

@@ -1,16 +1,15 @@
 -- What the whole call returned says what is printed, one law for each way out of the code.
 -- Assumes nothing.
 use Prim.Native.Nat.{ℕ, _+_, _*_, _/_, _%_, _≤_, _<_, min}
-use mathlib.Core.Path.{_≡_, refl, sym, ap, _∙_}
+use mathlib.Core.Path.{_≡_, refl, ap, _∙_}
 use mathlib.Core.List.{List}
 use native.Mathlib.Omega.{arith}
 use lib.Dec.{leb, eqb}
-use lib.ListN.{length, take, length-append, length-replicate}
+use lib.ListN.{length, length-append, length-replicate}
 use lib.Seq.{take-append-seam}
 use borrow.Author.Tests.{eq-eqb, ne-eqb, eqb-true, eqb-false, leb-true}
 use Rattle.basis.specs.Refusal.{number, place}
 use Rattle.basis.specs.declared.Refusal.{Refusal}
-use Rattle.basis.specs.declared.Refusal.the-variants.{SheetLength}
 use Rattle.basis.proofs.Tests.{cases}
 use Rattle.basis.proofs.Refusals.{nothing, first-nothing}
 use Rattle.io.specs.Counts.{Counts}
@@ -52,14 +51,14 @@ module _ (sheet file out : List ℕ) (l : length out ≡ 192) where
       let e = first-nothing _ _ (first-nothing _ _ (nothing _ h) .1) .1 in
       cases (leb (length (text sheet file)) (length out)) (λ t. omega (arith, leb-true (length (text sheet file)) (length out) t)) (λ t. absurd (omega (arith, ap number (rw t at e))))
 
-  pub report-printed : callCode sheet file out < 4294967296
+  report-printed : callCode sheet file out < 4294967296
       → (callCode sheet file out ≡ length (printed sheet file)) × (callBuffer sheet file out ≡ writtenOver (printed sheet file) out)
   unfolding callCode callBuffer printed
   report-printed h =
       cases (eqb (number (callRefusal sheet file out)) 0) (λ t. rw (← same-refusal, t) (refl, refl))
       (λ t. absurd (omega (arith, rw t at h, code-least (callRefusal sheet file out) (eqb-false (number (callRefusal sheet file out)) 0 t))))
 
-  pub refusal-printed : 4294967296 ≤ callCode sheet file out
+  refusal-printed : 4294967296 ≤ callCode sheet file out
       → (refusedLine (callCode sheet file out / 4294967296) (callCode sheet file out % 4294967296) ≡ printed sheet file) × (callBuffer sheet file out ≡ out)
   unfolding callCode callBuffer printed
   refusal-printed h =

@@ -30,6 +30,6 @@ unfoldable pub printedFrom : ℕ → List ℕ → List ℕ → List ℕ
 printedFrom n sheet file = pick (eqb n 502) (printed sheet file) (line (SheetLength n))
 
 -- a program may hold 502 bytes of column.dat and the beginning of standard input, and count the sheet's length to 4,294,967,295
-pub record Bounded : Type 0 where
-  pub enough : (n : ℕ) (sheet file : List ℕ) → min n 4294967295 ≡ min (length sheet) 4294967295
+pub record Beginnings : Type 0 where
+  pub suffice : (n : ℕ) (sheet file : List ℕ) → min n 4294967295 ≡ min (length sheet) 4294967295
       → printedFrom n (take 502 sheet) (take beginningLength file) ≡ printed sheet file

@@ -6,15 +6,19 @@ ghost use Rattle.report.specs.Refused.{writtenOver};
 ghost use Rattle.console.specs.Printed.{printedFrom};
 use basis::least_of;
 use rembilung::rembilung_verdict;
+use report::refusal::ROOM;
 use report::refusal::write_refused;
 
+// A place above that is given as that.
+pub(crate) const GREATEST_PLACE: u64 = 4294967295;
+
 // The report, or the line of the refusal, at the front of a buffer, from a sheet's length and first bytes and a file; gives its length.
-pub fn write_answer(length: u64, sheet: &[u8], file: &[u8], out: &mut [u8; 192]) -> usize
+pub fn write_answer(length: u64, sheet: &[u8], file: &[u8], out: &mut [u8; ROOM]) -> usize
     ensures { λ r. ⌜ Counts r (now (out .exit)) ⌝ }
     ensures { λ r. ⌜ (r ≡ List·length (printedFrom length (now (sheet .entry)) (now (file .entry)))) × (now (out .exit) ≡ writtenOver (printedFrom length (now (sheet .entry)) (now (file .entry))) (now (out .entry))) ⌝ }
 {
     if length != 502 {
-        return write_refused(1, least_of(length, 4294967295), out);
+        return write_refused(1, least_of(length, GREATEST_PLACE), out);
     }
     let code = rembilung_verdict(sheet, file, out);
     if code < 4294967296 {

@@ -1,9 +1,12 @@
 // The program: column.dat and standard input to the whole call, its answer to standard output.
 ghost use Rattle.io.specs.Counts.{Counts};
+use crate::answer::GREATEST_PLACE;
 use crate::answer::write_answer;
 use basis::least_of;
+use jobfile::BEGINNING_LENGTH;
 use libc::STDIN_FILENO;
 use libc::STDOUT_FILENO;
+use report::refusal::ROOM;
 
 pub mod answer;
 
@@ -35,8 +38,8 @@ fn length_of(fd: i32, first: usize) -> u64 {
         return 0;
     }
     let mut space = io::buffer();
-    let mut length = least_of(first as u64, 4294967295);
-    while length < 4294967295 {
+    let mut length = least_of(first as u64, GREATEST_PLACE);
+    while length < GREATEST_PLACE {
         let got = libc::read(fd, &mut space);
         if got < 0 {
             os::fail(b"column.dat");
@@ -46,7 +49,7 @@ fn length_of(fd: i32, first: usize) -> u64 {
         if more == 0 {
             return length;
         }
-        length = least_of(length + more as u64, 4294967295);
+        length = least_of(length + more as u64, GREATEST_PLACE);
     }
     length
 }
@@ -59,10 +62,11 @@ pub fn run()
     let mut sheet = [0u8; 502];
     let kept = first_bytes(fd, &mut sheet);
     let length = length_of(fd, kept);
+    // of no effect where nothing was opened
     libc::close(fd);
-    let mut file = [0u8; 126];
+    let mut file = [0u8; BEGINNING_LENGTH];
     let given = io::read_full(STDIN_FILENO, &mut file);
-    let mut text = [0u8; 192];
+    let mut text = [0u8; ROOM];
     let n = write_answer(length, &sheet[..kept], &file[..given], &mut text);
     if !io::write_all(STDOUT_FILENO, &text[..n]) {
         os::fail(b"standard output");

@@ -2,12 +2,11 @@
 -- Assumes nothing.
 use mathlib.Core.Path.{_≡_, _∙_}
 use mathlib.Core.List.{List}
-use Prim.Native.Nat.{ℕ, _+_, _^_, _≤_, _<_}
+use Prim.Native.Nat.{ℕ, _^_, _<_}
 use native.Mathlib.Nat.{zero-add}
 use native.Mathlib.Omega.{arith}
 use lib.ListN.{length, length-append}
 use lib.Seq.{sets-eq}
-use Rattle.report.specs.Digits.{digits}
 use Rattle.report.specs.Refused.{refusedLine, writtenOver}
 use Rattle.report.specs.Put.{Room, Put}
 use Rattle.report.proofs.Digits.{bound, digits-most}

@@ -7,8 +7,11 @@ use crate::lines::SPACE;
 use crate::text::put_number;
 use crate::text::put_word;
 
-// Writes the line of a refusal, for which the buffer has room whatever the numbers, and gives its length.
-pub fn write_refused(number: u64, place: u64, out: &mut [u8; 192]) -> usize
+// The length of a buffer that has room for the line of any refusal.
+pub const ROOM: usize = 192;
+
+// Writes the line of a refusal at the front of a buffer, and gives its length.
+pub fn write_refused(number: u64, place: u64, out: &mut [u8; ROOM]) -> usize
     ensures { λ r. ⌜ (r ≡ length (refusedLine number place)) × (now (out .exit) ≡ writtenOver (refusedLine number place) (now (out .entry))) ⌝ }
 {
     let second = put_word(out, 0, b"refused ");

@@ -1,7 +1,7 @@
 -- What is printed depends on a sheet's length, its first 502 bytes and a file's beginning.
 -- Assumes nothing.
 use Prim.Native.Nat.{ℕ, min}
-use mathlib.Core.Path.{_≡_, refl, sym, ap, _∙_}
+use mathlib.Core.Path.{_≡_, ap}
 use mathlib.Core.List.{List}
 use native.Mathlib.Omega.{arith}
 use lib.Dec.{eqb}
@@ -16,7 +16,7 @@ use Rattle.jobfile.specs.Read.{damage, values, numbersIn, readRefusal}
 use Rattle.jobfile.specs.Beginning.{beginningLength}
 use Rattle.jobfile.proofs.Beginning.{beginning}
 use Rattle.rembilung.specs.Call.{text, sheetRefusal, callRefusal}
-use Rattle.console.specs.Printed.{line, refusalOf, printed, printedFrom, Bounded}
+use Rattle.console.specs.Printed.{line, refusalOf, printed, printedFrom, Beginnings}
 
 module _ (sheet file : List ℕ) where
   file-beginning : printed sheet (take beginningLength file) ≡ printed sheet file
@@ -30,13 +30,13 @@ module _ (sheet file : List ℕ) where
   unfolding printed refusalOf callRefusal sheetRefusal
   other-length h = rw (ne-eqb (length sheet) 502 h, ← first-here (SheetLength (length sheet)) _ (λ e. omega arith))
 
-enough : (n : ℕ) (sheet file : List ℕ) → min n 4294967295 ≡ min (length sheet) 4294967295
+suffice : (n : ℕ) (sheet file : List ℕ) → min n 4294967295 ≡ min (length sheet) 4294967295
     → printedFrom n (take 502 sheet) (take beginningLength file) ≡ printed sheet file
 unfolding printedFrom line
-enough n sheet file h =
+suffice n sheet file h =
     cases (eqb n 502)
     (λ t. let e = eqb-true n 502 t in rw (t, take-all 502 sheet (omega arith)) (file-beginning sheet file))
     (λ t. let e = eqb-false n 502 t in rw (t, other-length sheet file (λ z. e (omega arith)), h))
 
-pub bounded : Bounded
-bounded = record { enough = enough }
+pub beginnings : Beginnings
+beginnings = record { suffice = suffice }
