@@ -34,10 +34,10 @@ pub fn entries_of(bytes: &[u8]) -> [u16; 251]
     ensures { λ r. ⌜ r ≡ entries (now (bytes .entry)) 251 ⌝ }
 {
     let mut sheet: [u16; 251] = [0; 251];
-    let mut k: usize = 0;
-    while k < 251 {
-        sheet[k] = entry_of(bytes[2 * k], bytes[2 * k + 1]);
-        k += 1;
+    let mut at: usize = 0;
+    while at < 251 {
+        sheet[at] = entry_of(bytes[2 * at], bytes[2 * at + 1]);
+        at += 1;
     }
     sheet
 }

@@ -1,4 +1,4 @@
--- `entries_of` meets its contract: the invariant is that the first k entries are read. Assumes nothing.
+-- `entries_of` meets its contract: the invariant is that the entries before the place are read. Assumes nothing.
 use mathlib.Core.Path.{_≡_, refl, sym, _∙_}
 use mathlib.Core.List.{List}
 use Prim.Native.Nat.{ℕ, _+_, _*_, _-_, _≤_, _<_}
@@ -13,10 +13,10 @@ use Rattle.sheet.proofs.entries_of.Statement.{statement}
 use Rattle.sheet.proofs.entries_of.Tie as tie
 
 abbrev Inv-loop : tie.InvT-loop
-Inv-loop bytes sheet₀ k₀ sheet k = (k ≤ 251) × (length sheet ≡ 251) × (take k sheet ≡ entries bytes k)
+Inv-loop bytes sheet₀ at₀ sheet at = (at ≤ 251) × (length sheet ≡ 251) × (take at sheet ≡ entries bytes at)
 
 abbrev μ-loop : tie.MeasureT-loop
-μ-loop bytes sheet₀ k₀ sheet k = 251 - k
+μ-loop bytes sheet₀ at₀ sheet at = 251 - at
 
 -- one entry more
 step : (bytes sheet : List ℕ) (k e : ℕ) → k < length sheet → take k sheet ≡ entries bytes k → e ≡ entry (getD bytes (2 * k) 0) (getD bytes (2 * k + 1) 0) → take (k + 1) (set sheet k e) ≡ entries bytes (k + 1)
@@ -38,11 +38,11 @@ entries-of-spec =
     (λ c κs. search needs)  -- entry-of-requires
     (λ c. search needs)  -- mul-sheet
     (λ c. search needs)  -- array-write-sheet
-    (λ c. search needs)  -- add-k
+    (λ c. search needs)  -- add-at
     (λ c. search needs)  -- loop-less
     (λ c.
     let l = c .before .before .before .before .loop in
     (omega arith, simp length-set (l .inv .1), step _ _ _ _ (omega arith) (l .inv .2) (c .entry-of .ensures)))  -- loop-again
     (λ c.
-    let z : c .before .loop .k ≡ 251 = omega arith in
+    let z : c .before .loop .at ≡ 251 = omega arith in
     sym (take-all 251 _ (omega arith)) ∙ (rw z at (c .before .loop .inv .2))))  -- returns
