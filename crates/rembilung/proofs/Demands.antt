@@ -1,20 +1,17 @@
 -- The three demands, proved.
 -- Assumes nothing.
 use mathlib.Core.Path.{_≡_, refl, sym, ap, _∙_}
-use mathlib.Core.List.{List, _++_, append-assoc}
-use Prim.Native.Nat.{ℕ, _≤_, _<_}
-use native.Mathlib.Omega.{arith}
+use mathlib.Core.List.{List, append-assoc}
+use Prim.Native.Nat.{ℕ, _<_}
 use lib.Dec.{eqb, lit<}
-use lib.ListN.{length, take, drop, getD}
+use lib.ListN.{length}
 use borrow.Author.Tests.{eq-eqb, ne-eqb}
 use Rattle.basis.specs.Refusal.{number}
 use Rattle.basis.proofs.Refusals.{nothing, first-nothing, first-rest, unless-pass}
-use Rattle.job.specs.declared.Job.{Job}
-use Rattle.job.specs.Job.{jobOf, numbers}
+use Rattle.job.specs.Job.{jobOf}
 use Rattle.job.specs.Examine.{examination}
 use Rattle.job.proofs.Numbers.{numbers-job}
 use Rattle.section5.specs.Section5.{verdicts, figures}
-use Rattle.section5.specs.Harsher.{Harsher}
 use Rattle.judge.specs.Answer.{Accepted, refusal, judgement}
 use Rattle.judge.specs.Demand3 as Judged
 use Rattle.judge.proofs.Demand.{demand3}
@@ -23,10 +20,10 @@ use Rattle.jobfile.specs.Read.{damage, readRefusal, jobIn}
 use Rattle.jobfile.specs.Write as Write
 use Rattle.jobfile.proofs.RoundTrip.{round-trip}
 use Rattle.report.specs.Report.{report}
-use Rattle.rembilung.specs.Code.{code, writtenCode, readCode, readNumbers}
+use Rattle.rembilung.specs.Code.{writtenCode, readCode, readNumbers}
 use Rattle.rembilung.specs.Call.{entriesOf, jobOfFile, text, sheetRefusal, callRefusal, callCode, callBuffer}
 use Rattle.rembilung.specs.Shown.{verdictShown}
-use Rattle.rembilung.specs.Demands.{Demand1, Demand2, Demand3, Demands}
+use Rattle.rembilung.specs.Demands.{Demand1, Demand2, Demands}
 use Rattle.rembilung.proofs.Shown.{lines-show, verdicts-digits, rows-long}
 
 demand1 : Demand1

@@ -1,24 +1,22 @@
 -- What the whole call returns and leaves, one law for each way out of the code.
 -- Assumes nothing.
 use mathlib.Core.Path.{_≡_, refl, sym, ap, _∙_}
-use mathlib.Core.List.{List, _++_}
-use Prim.Native.Nat.{ℕ, _≤_}
+use mathlib.Core.List.{List}
+use Prim.Native.Nat.{ℕ}
 use native.Mathlib.Omega.{arith}
 use lib.Dec.{leb, eqb}
-use lib.ListN.{length, drop}
-use borrow.Author.Tests.{eq-eqb, ne-eqb, eqb-true, eqb-false}
-use Rattle.basis.specs.Choice.{pick}
-use Rattle.basis.specs.Refusal.{number, unless, first}
+use lib.ListN.{length}
+use borrow.Author.Tests.{eq-eqb, ne-eqb, eqb-false}
+use Rattle.basis.specs.Refusal.{number, first}
 use Rattle.basis.specs.declared.Refusal.{Refusal}
-use Rattle.basis.specs.declared.Refusal.the-variants.{Nothing, SheetLength, TooShort}
+use Rattle.basis.specs.declared.Refusal.the-variants.{Nothing, SheetLength}
 use Rattle.basis.proofs.Tests.{cases}
 use Rattle.basis.proofs.Refusals.{first-here, first-rest, nothing, first-nothing}
 use Rattle.job.specs.declared.Job.{Job}
-use Rattle.job.specs.Job.{jobOf}
 use Rattle.job.specs.Examine as Job
 use Rattle.sheet.specs.Sheet as Sheet
 use Rattle.judge.specs.Answer.{judgement}
-use Rattle.jobfile.specs.Read.{damage, values, readRefusal, jobIn}
+use Rattle.jobfile.specs.Read.{damage, readRefusal, jobIn}
 use Rattle.jobfile.specs.declared.ReadJob.the-variants.{Accepted, Refused}
 use Rattle.jobfile.proofs.Reading.{read-accepted}
 use Rattle.report.specs.Report.{outcome, left}

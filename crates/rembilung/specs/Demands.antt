@@ -1,15 +1,13 @@
 -- The client's three demands, about what the exported calls return and leave.
 -- Assumes nothing.
-use Prim.Native.Nat.{ℕ, _≤_, _<_, _^_}
+use Prim.Native.Nat.{ℕ, _≤_, _<_}
 use mathlib.Core.Path.{_≡_}
 use mathlib.Core.List.{List, _++_}
-use mathlib.Core.Logic.{_↔_}
-use lib.Dec.{T}
 use lib.ListN.{length, take, drop}
 use Rattle.basis.specs.Refusal.{number}
 use Rattle.job.specs.declared.Job.{Job}
 use Rattle.job.specs.Job.{jobOf, numbers}
-use Rattle.section5.specs.Section5.{verdicts, figures, stability, permitted, wk, Mw, Z, poles}
+use Rattle.section5.specs.Section5.{verdicts, figures, stability, permitted, wk, Mw, Z}
 use Rattle.section5.specs.Harsher.{Harsher}
 use Rattle.judge.specs.Demand3 as Judged
 use Rattle.jobfile.specs.Read.{readRefusal, jobIn}
