@@ -67,7 +67,7 @@ module _ (s : List ℕ) (j : Job) (a : Accepted s j) where
     unfolding bound
     height-narrow l =
         let k : H ≤ 999 = omega arith in
-        rw height-line-length (omega (arith, width 2 999 tt k, width 2 999 tt (le-trans (Most.permitted-low (j .family) H (omega arith)) k)))
+        rw height-line-length (omega (arith, width 2 999 tt k, width 2 999 tt (le-trans (Most.permitted-low (j .family) H) k)))
 
     -- check 8 is due, and passes at H
     module _ (t : T (W.check8 (W.poleOf s j) H)) where

@@ -2,11 +2,10 @@
 -- Assumes nothing.
 use mathlib.Core.Bool.{Bool, true, false}
 use mathlib.Core.List.{List}
-use Prim.Native.Nat.{ℕ, _+_, _*_, _-_, _≤_, _<_}
-use native.Mathlib.Nat.{le-refl, le-trans, min-le-left, min-le-right, mul-le-mul-left, div-le-self}
+use Prim.Native.Nat.{ℕ, _+_, _*_, _-_, _≤_}
+use native.Mathlib.Nat.{le-refl, le-trans, min-le-left, min-le-right, mul-le-mul-left, div-le-self, div-le-of-le-mul}
 use native.Mathlib.Omega.{arith}
-use lib.Dec.{T, leb, eqb, lit≤}
-use borrow.Author.Tests.{lt-ltb}
+use lib.Dec.{T, leb, ltb, eqb, lit≤}
 use Rattle.basis.specs.Choice.{pick}
 use Rattle.basis.specs.Fraction.{ceil}
 use Rattle.basis.proofs.Order.{mono}
@@ -37,10 +36,10 @@ pub permitted-most : (f H : ℕ) → permitted f H ≤ 5000
 unfolding permitted
 permitted-most f H = le-trans (min-le-right _ (heightLimit f)) (pick-below (eqb f 1) (le-refl 5000) (lit≤ tt))
 
--- below 26 m, the permitted height is no greater than the stability height
-pub permitted-low : (f H : ℕ) → H < 2600 → permitted f H ≤ H
+-- the permitted height is no greater than the stability height
+pub permitted-low : (f H : ℕ) → permitted f H ≤ H
 unfolding permitted
-permitted-low f H h = le-trans (min-le-left _ (heightLimit f)) (rw (lt-ltb H 2600 h) (le-refl H))
+permitted-low f H = le-trans (min-le-left _ (heightLimit f)) (pick-below (ltb H 2600) (le-refl H) (div-le-of-le-mul (100000 + H) {m = 100000 * H} (omega arith)))
 
 -- a division up by a number that depends on the tube
 tube-below : {n m : ℕ} (tube : ℕ) (f : ℕ → ℕ) (x y b : ℕ) → T (leb (ceil b (f x)) m) → T (leb (ceil b (f y)) m) → n ≤ b → ceil n (f (pick (eqb tube 1) x y)) ≤ m
