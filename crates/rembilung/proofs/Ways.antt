@@ -19,7 +19,7 @@ use Rattle.judge.specs.Answer.{judgement}
 use Rattle.jobfile.specs.Read.{damage, readRefusal, jobIn}
 use Rattle.jobfile.specs.declared.ReadJob.the-variants.{Accepted, Refused}
 use Rattle.jobfile.proofs.Reading.{read-accepted}
-use Rattle.report.specs.Report.{outcome, left}
+use Rattle.report.specs.Report.{outcome, leaves}
 use Rattle.rembilung.specs.Code.{code, reportCode}
 use Rattle.rembilung.specs.Call.{entriesOf, jobOfFile, text, sheetRefusal, roomRefusal, callRefusal, callCode, callBuffer}
 
@@ -82,8 +82,8 @@ module _ (sheet file out : List ℕ) where
       last e = later ∙ sym (first-rest (readRefusal file) _ (ap number (file-accepted file e .0)))
 
       -- the report, or a buffer too short for it
-      reported : {j : Job} → jobIn file ≡ Accepted j → (reportCode (outcome (judgement (entriesOf sheet) j) out) ≡ callCode sheet file out) × (left (judgement (entriesOf sheet) j) out ≡ callBuffer sheet file out)
-      unfolding callCode callBuffer reportCode outcome left roomRefusal text
+      reported : {j : Job} → jobIn file ≡ Accepted j → (reportCode (outcome (judgement (entriesOf sheet) j) out) ≡ callCode sheet file out) × (leaves (judgement (entriesOf sheet) j) out ≡ callBuffer sheet file out)
+      unfolding callCode callBuffer reportCode outcome leaves roomRefusal text
       reported {j} e =
           rw (last e, file-accepted file e .1)
           (cases (leb (length (text sheet file)) (length out)) (λ t. rw t (refl, refl)) (λ t. rw t (refl, refl)))
@@ -96,5 +96,5 @@ module _ (sheet file out : List ℕ) where
       pub file-way : {x : Refusal} {c : ℕ} → jobIn file ≡ Refused x → c ≡ code x → (c ≡ callCode sheet file out) × (out ≡ callBuffer sheet file out)
       file-way f g = let b = bad-file stands f in (g ∙ b .0, b .1)
 
-      pub report-way : {j : Job} {c : ℕ} {after : List ℕ} → jobIn file ≡ Accepted j → c ≡ reportCode (outcome (judgement entries j) out) → after ≡ left (judgement entries j) out → (c ≡ callCode sheet file out) × (after ≡ callBuffer sheet file out)
+      pub report-way : {j : Job} {c : ℕ} {after : List ℕ} → jobIn file ≡ Accepted j → c ≡ reportCode (outcome (judgement entries j) out) → after ≡ leaves (judgement entries j) out → (c ≡ callCode sheet file out) × (after ≡ callBuffer sheet file out)
       report-way f g a = let b = reported stands f in (cc (b .0), cc (b .1))

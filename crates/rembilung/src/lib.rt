@@ -6,7 +6,7 @@ ghost use Rattle.jobfile.specs.Write.{answer, written};
 ghost use Rattle.rembilung.specs.Code.{code, writtenCode, readCode, readNumbers, reportCode};
 ghost use Rattle.rembilung.specs.Call.{callCode, callBuffer};
 ghost use Rattle.judge.specs.Answer.{judgement};
-ghost use Rattle.report.specs.Report.{outcome, left};
+ghost use Rattle.report.specs.Report.{outcome, leaves};
 ghost use Rattle.sheet.specs.Sheet.{Stands};
 ghost use Rattle.job.specs.Examine.{Stands as JobStands};
 use basis::Refusal;
@@ -55,7 +55,7 @@ pub extern "C" fn rembilung_read_job(file: &[u8], numbers: &mut [u32; 25]) -> u6
 // Judges an accepted sheet and job, and writes the report.
 fn report_into(sheet: &[u16], j: Job, out: &mut [u8]) -> u64
     requires { ⌜ Stands (now sheet) × JobStands j ⌝ }
-    ensures { λ r. ⌜ (r ≡ reportCode (outcome (judgement (now (sheet .entry)) j) (now (out .entry)))) × (now (out .exit) ≡ left (judgement (now (sheet .entry)) j) (now (out .entry))) ⌝ }
+    ensures { λ r. ⌜ (r ≡ reportCode (outcome (judgement (now (sheet .entry)) j) (now (out .entry)))) × (now (out .exit) ≡ leaves (judgement (now (sheet .entry)) j) (now (out .entry))) ⌝ }
 {
     let done = report::write(judge_accepted(sheet, j), out);
     let refusal = done.refusal;
