@@ -3,10 +3,12 @@
 use mathlib.Core.Path.{_≡_, refl, sym, ap, _∙_}
 use mathlib.Core.List.{[], _∷_, _++_}
 use Prim.Native.Nat.{ℕ, zero, suc, _+_, _*_, _/_, _%_, _≤_, _<_}
+use native.Mathlib.Nat.{le-refl}
 use native.Mathlib.Omega.{arith}
-use lib.Dec.{ltb}
+use lib.Dec.{T, ltb, leb, leb→le}
 use lib.ListN.{length, length-append}
 use borrow.Author.Tests.{lt-ltb, le-ltb, ltb-true, ltb-false}
+use Rattle.basis.specs.Figure.{Is}
 use Rattle.basis.proofs.Tests.{cases}
 use Rattle.report.specs.Digits.{digitsWithin, digits}
 
@@ -47,9 +49,25 @@ unfoldable pub bound : ℕ → ℕ
 bound zero = 10
 bound (suc k) = 10 * bound k
 
+bound-least : (k : ℕ) → 10 ≤ bound k
+unfolding bound
+bound-least zero = le-refl 10
+bound-least (suc k) = omega (arith, bound-least k)
+
 pub digits-most : (k n : ℕ) → n < bound k → length (digits n) ≤ suc k
 unfolding bound
 digits-most zero n h = omega (arith, one-length n h)
 digits-most (suc k) n h =
     cases (ltb n 10) (λ t. omega (arith, one-length n (ltb-true n 10 t)))
     (λ t. omega (arith, more-length n (ltb-false n 10 t), digits-most k (n / 10) (omega arith)))
+
+digits-least : (k n : ℕ) → bound k ≤ n → suc (suc k) ≤ length (digits n)
+unfolding bound
+digits-least zero n h =
+    cases (ltb (n / 10) 10) (λ t. omega (arith, more-length n h, one-length (n / 10) (ltb-true (n / 10) 10 t)))
+    (λ t. omega (arith, more-length n h, more-length (n / 10) (ltb-false (n / 10) 10 t)))
+digits-least (suc k) n h = omega (arith, more-length n (omega (arith, bound-least k)), digits-least k (n / 10) (omega arith))
+
+-- a number between two powers of ten
+pub digits-counted : (k n : ℕ) → T (leb k 18) → bound k ≤ n → n < bound (suc k) → Is (suc (suc k)) (length (digits n)) 20
+digits-counted k n t l u = record { is = omega (arith, digits-least k n l, digits-most (suc k) n u); most = omega (arith, leb→le k 18 t) }

@@ -5,8 +5,8 @@ ghost use Rattle.report.specs.Digits.{digits};
 ghost use Rattle.report.specs.Report.{number};
 ghost use Rattle.report.specs.Put.{Room, Put};
 
-// How many digits a number has.
-pub(crate) fn digit_count(n: u64) -> usize
+// How many digits a number has, by division.
+fn divided_digit_count(n: u64) -> usize
     ensures { λ r. ⌜ Is r (length (digits n)) 20 ⌝ }
 {
     let mut rest = n;
@@ -16,6 +16,37 @@ pub(crate) fn digit_count(n: u64) -> usize
         count += 1;
     }
     count
+}
+
+// How many digits a number has; figures of accepted jobs have at most eight, and comparing costs less than dividing.
+pub(crate) fn digit_count(n: u64) -> usize
+    ensures { λ r. ⌜ Is r (length (digits n)) 20 ⌝ }
+{
+    if n < 10 {
+        return 1;
+    }
+    if n < 100 {
+        return 2;
+    }
+    if n < 1000 {
+        return 3;
+    }
+    if n < 10000 {
+        return 4;
+    }
+    if n < 100000 {
+        return 5;
+    }
+    if n < 1000000 {
+        return 6;
+    }
+    if n < 10000000 {
+        return 7;
+    }
+    if n < 100000000 {
+        return 8;
+    }
+    divided_digit_count(n)
 }
 
 // A number, its last digit first, and the byte after it.

@@ -17,6 +17,14 @@ use Rattle.basis.proofs.Refusals.{unless-pass}
 use Rattle.sheet.specs.Sheet.{entryStands, fault, examination, Stands}
 use Rattle.sheet.specs.Factor.{over, under}
 
+-- where none of the entries up to m is greater than the one before it, a later one is no greater
+pub falls-from : (s : List ℕ) (m : ℕ) → ((k : ℕ) → suc k ≤ m → getD s (suc k) 0 ≤ getD s k 0) → {i k : ℕ} → i ≤ k → k ≤ m → getD s k 0 ≤ getD s i 0
+falls-from s m next {i} {k} l u = rw (add-sub-of-le l) at (after (k - i) i (omega (arith, add-sub-of-le l)))
+  where
+    after : (n i : ℕ) → i + n ≤ m → getD s (i + n) 0 ≤ getD s i 0
+    after zero i l = rw add-zero (le-refl (getD s i 0))
+    after (suc n) i l = rw add-suc (le-trans (next (i + n) (omega arith)) (after n i (omega arith)))
+
 module _ (s : List ℕ) (h : Stands s) where
   tests : T (eqb (length s) 251) × T (eqb (fault s) 251)
   unfolding Stands examination
@@ -57,12 +65,8 @@ module _ (s : List ℕ) (h : Stands s) where
       (λ t. rw e at (leb→le (getD s (suc k) 0) (getD s (suc k - 1) 0) t))
       (both-left _ (either (not (eqb (suc k) 250)) (leb 117 (getD s (suc k) 0))) (entry-falling (suc k) l))
 
-  entry-after : (n i : ℕ) → i + n ≤ 250 → getD s (i + n) 0 ≤ getD s i 0
-  entry-after zero i l = rw add-zero (le-refl (getD s i 0))
-  entry-after (suc n) i l = rw add-suc (le-trans (entry-next (i + n) (omega arith)) (entry-after n i (omega arith)))
-
   pub entry-falls : {i k : ℕ} → i ≤ k → k ≤ 250 → getD s k 0 ≤ getD s i 0
-  entry-falls {i} {k} l m = rw (add-sub-of-le l) at (entry-after (k - i) i (omega (arith, add-sub-of-le l)))
+  entry-falls = falls-from s 250 entry-next
 
   -- the stability factor is above 0, and at most 1
   pub factor-within : (z : ℕ) → (0 < over s z) × (over s z ≤ under z)

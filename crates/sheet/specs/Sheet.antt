@@ -1,8 +1,8 @@
 -- Refusals 1 and 2: a sheet isn't 251 entries; an entry is 0, above 1,000, above the one before it, or at 250 and below 117.
 -- Assumes nothing.
-use Prim.Native.Nat.{ℕ, _-_}
+use Prim.Native.Nat.{ℕ, zero, suc, _-_}
 use mathlib.Core.Path.{_≡_}
-use mathlib.Core.Bool.{Bool, not}
+use mathlib.Core.Bool.{Bool, true, not}
 use mathlib.Core.List.{List}
 use lib.ListN.{length, getD}
 use lib.Dec.{leb, eqb}
@@ -23,6 +23,15 @@ entryStands sheet k = stands (getD sheet k 0) (getD sheet (k - 1) 0) k
 -- the first entry that does not stand; 251 where each does
 unfoldable pub fault : List ℕ → ℕ
 fault sheet = firstFail (entryStands sheet) 0 251
+
+-- none of the n entries after entry 0 is greater than the entry before it
+unfoldable pub falling : List ℕ → ℕ → Bool
+falling sheet zero = true
+falling sheet (suc n) = both (falling sheet n) (leb (getD sheet (suc n) 0) (getD sheet n 0))
+
+-- the sheet falls from at most 1,000 to at least 117: then each entry stands, which is seen faster than by its own test
+unfoldable pub sound : List ℕ → Bool
+sound sheet = both (leb (getD sheet 0 0) 1000) (both (leb 117 (getD sheet 250 0)) (falling sheet 250))
 
 unfoldable pub examination : List ℕ → Refusal
 examination sheet =

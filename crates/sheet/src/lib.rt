@@ -3,7 +3,7 @@ ghost use mathlib.Core.Path.{_≡_};
 ghost use Prim.Native.Nat.{_≤_};
 ghost use lib.ListN.{length};
 ghost use Rattle.basis.specs.Search.{firstFail};
-ghost use Rattle.sheet.specs.Sheet.{stands, entryStands, examination, Stands};
+ghost use Rattle.sheet.specs.Sheet.{stands, entryStands, falling, sound, examination, Stands};
 ghost use Rattle.sheet.specs.Factor.{Reading};
 ghost use Rattle.sheet.specs.Bytes.{entry, entries};
 use basis::Refusal;
@@ -71,6 +71,30 @@ fn first_fault(sheet: &[u16]) -> usize
     k
 }
 
+// No entry is greater than the one before it; every entry is looked at, so that eight can be compared at a time.
+fn falls_throughout(sheet: &[u16]) -> bool
+    requires { ⌜ length (now sheet) ≡ 251 ⌝ }
+    ensures { λ r. ⌜ r ≡ falling (now (sheet .entry)) 250 ⌝ }
+{
+    let mut so_far = true;
+    let mut k: usize = 0;
+    while k < 250 {
+        so_far = both_of(so_far, wide(sheet[k + 1]) <= wide(sheet[k]));
+        k += 1;
+    }
+    so_far
+}
+
+// The sheet falls from at most 1,000 to at least 117.
+fn is_sound(sheet: &[u16]) -> bool
+    requires { ⌜ length (now sheet) ≡ 251 ⌝ }
+    ensures { λ r. ⌜ r ≡ sound (now (sheet .entry)) ⌝ }
+{
+    let first = wide(sheet[0]);
+    let last = wide(sheet[250]);
+    both_of(first <= 1000, both_of(117 <= last, falls_throughout(sheet)))
+}
+
 // What is refused of a sheet: its length, then its first entry that does not stand.
 pub fn examine(sheet: &[u16]) -> Refusal
     ensures { λ r. ⌜ r ≡ examination (now (sheet .entry)) ⌝ }
@@ -78,6 +102,9 @@ pub fn examine(sheet: &[u16]) -> Refusal
     let n = sheet.len();
     if n != 251 {
         return Refusal::SheetLength(n as u64);
+    }
+    if is_sound(sheet) {
+        return Refusal::Nothing;
     }
     let k = first_fault(sheet);
     refuse_unless(k == 251, Refusal::SheetEntry(k as u64), Refusal::Nothing)

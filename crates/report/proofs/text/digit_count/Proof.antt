@@ -1,27 +1,21 @@
--- `digit_count` meets its contract. The invariant: the digits counted and those of the rest are those of the number. Assumes nothing.
-use mathlib.Core.Path.{_≡_}
-use Prim.Native.Nat.{suc, _+_, _≤_}
+-- `digit_count` meets its contract: each way out knows the two powers of ten that the number lies between. Assumes nothing.
 use native.Mathlib.Omega.{arith}
-use lib.ListN.{length}
-use Rattle.report.specs.Digits.{digits}
-use Rattle.report.proofs.Digits.{bound, one-length, more-length, digits-most}
+use borrow.Author.Needs.{needs}
+use Rattle.report.proofs.Digits.{bound, digits-counted, one-length}
 use Rattle.report.proofs.text.digit_count.Statement.{statement}
 use Rattle.report.proofs.text.digit_count.Tie as tie
-
-abbrev Inv-loop : tie.InvT-loop
-Inv-loop n rest₀ count₀ rest count = (count + length (digits rest) ≡ suc (length (digits n))) × (length (digits n) ≤ 20)
-
-abbrev μ-loop : tie.MeasureT-loop
-μ-loop n rest₀ count₀ rest count = rest
 
 pub digit-count-spec : {M : Type 1} → statement M
 digit-count-spec =
     tie.close
     (tie.spec
-    Inv-loop
-    μ-loop
-    (λ c. (omega arith, unfold bound in digits-most 19 _ (omega (arith, c .fits .n))))  -- loop-holds
-    (λ c. omega (arith, more-length _ (c .loop-test .taken)))  -- add-count
-    (λ c. omega arith)  -- loop-less
-    (λ c. (omega (arith, more-length _ (c .loop-test .taken)), omega arith))  -- loop-again
-    (λ c. omega (arith, one-length _ (c .loop-test .left))))  -- returns
+    (λ c. record { is = omega (arith, one-length _ (c .if1 .taken)); most = omega arith })  -- returns
+    (λ c. unfold bound in digits-counted 0 _ tt (omega arith) (omega arith))  -- returns-2
+    (λ c. unfold bound in digits-counted 1 _ tt (omega arith) (omega arith))  -- returns-3
+    (λ c. unfold bound in digits-counted 2 _ tt (omega arith) (omega arith))  -- returns-4
+    (λ c. unfold bound in digits-counted 3 _ tt (omega arith) (omega arith))  -- returns-5
+    (λ c. unfold bound in digits-counted 4 _ tt (omega arith) (omega arith))  -- returns-6
+    (λ c. unfold bound in digits-counted 5 _ tt (omega arith) (omega arith))  -- returns-7
+    (λ c. unfold bound in digits-counted 6 _ tt (omega arith) (omega arith))  -- returns-8
+    (λ c κs. search needs)  -- divided-digit-count-requires
+    (λ c. search needs))  -- returns-9
