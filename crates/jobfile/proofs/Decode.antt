@@ -12,7 +12,7 @@ use lib.Seq.{drop-cons}
 use borrow.Author.Tests.{lt-ltb, le-ltb, ltb-true}
 use Rattle.basis.specs.Choice.{pick}
 use Rattle.basis.proofs.Tests.{cases}
-use Rattle.jobfile.specs.Decode.{laterGroups, lastGroup, extend, limit, decode, Within, Bounded}
+use Rattle.jobfile.specs.Decode.{laterGroups, lastGroup, extend, limit, decode}
 use Rattle.jobfile.specs.declared.Decoded.{Decoded}
 use Rattle.jobfile.specs.declared.Decoded.the-variants.{Number, Malformed}
 use Rattle.jobfile.proofs.Encode.{cap}
@@ -52,6 +52,16 @@ pub decode-more : (s : List ℕ) (at : ℕ) → at < length s → 128 ≤ getD s
 unfolding decode
 decode-more s at h b = rw (drop-cons s at 0 h, le-ltb _ _ b, add-one)
 
+-- a number below m of at most n bytes
+pub record Within (m n v k : ℕ) : Type 0 where
+  pub value : v < m
+  pub count : k ≤ n
+
+-- such a number, or none
+abbrev pub Bounded : ℕ → ℕ → Decoded → Type 0
+Bounded m n (Number v k) = Within m n v k
+Bounded m n Malformed = Unit
+
 extend-bounded : (m n b : ℕ) (p : Decoded) → Bounded m n p → Bounded (128 * m) (suc n) (extend b p)
 unfolding extend
 extend-bounded m n b (Number v k) w = record { value = omega arith; count = omega arith }
@@ -82,22 +92,6 @@ later-bounded zero [] = tt
 later-bounded (suc f) [] = tt
 later-bounded zero (b ∷ bs) = first-bounded zero b Malformed tt
 later-bounded (suc f) (b ∷ bs) = first-bounded (suc f) b (extend b (laterGroups f bs)) (extend-bounded (cap f) (suc f) b (laterGroups f bs) (later-bounded f bs))
-
-cap-most : (f : ℕ) → f ≤ 3 → cap f ≤ 2 ^ 28
-unfolding cap
-cap-most zero h = omega arith
-cap-most (suc zero) h = omega arith
-cap-most (suc (suc zero)) h = omega arith
-cap-most (suc (suc (suc zero))) h = omega arith
-cap-most (suc (suc (suc (suc f)))) h = omega arith
-
-wider : (m n m′ n′ : ℕ) (p : Decoded) → m ≤ m′ → n ≤ n′ → Bounded m n p → Bounded m′ n′ p
-wider m n m′ n′ (Number v k) h l w = record { value = omega arith; count = omega arith }
-wider m n m′ n′ Malformed h l w = tt
-
--- what the groups after the first give can be extended by the first
-pub later-small : (f : ℕ) (bs : List ℕ) → f ≤ 3 → Bounded (2 ^ 28) 4 (laterGroups f bs)
-later-small f bs h = wider (cap f) (suc f) (2 ^ 28) 4 (laterGroups f bs) (cap-most f h) (omega arith) (later-bounded f bs)
 
 -- a number is of 32 bits and has at most five bytes
 decode-bounded : (bs : List ℕ) → Bounded (2 ^ 32) 5 (decode bs)

@@ -1,5 +1,6 @@
 pub mod Encode
 pub mod Front
+pub mod Groups
 pub mod Decode
 pub mod Reading
 pub mod Writing

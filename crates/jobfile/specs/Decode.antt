@@ -1,6 +1,6 @@
 -- Reading a number from groups of seven bits: its shortest form only, at most five bytes and 4,294,967,295.
 -- Assumes nothing.
-use Prim.Native.Nat.{ℕ, zero, suc, _+_, _*_, _%_, _^_, _≤_, _<_}
+use Prim.Native.Nat.{ℕ, zero, suc, _+_, _*_, _%_, _^_}
 use mathlib.Core.List.{List, [], _∷_}
 use lib.Dec.{ltb, eqb}
 use Rattle.basis.specs.Choice.{pick}
@@ -23,6 +23,11 @@ laterGroups (suc f) [] = Malformed
 laterGroups zero (b ∷ bs) = pick (ltb b 128) (lastGroup b) Malformed
 laterGroups (suc f) (b ∷ bs) = pick (ltb b 128) (lastGroup b) (extend b (laterGroups f bs))
 
+-- what was read of a number after c groups of the value v, where the next group's weight is w
+unfoldable pub after : ℕ → ℕ → ℕ → Decoded → Decoded
+after v w c (Number x k) = Number (v + x * w) (c + k)
+after v w c Malformed = Malformed
+
 unfoldable pub limit : Decoded → Decoded
 limit (Number v k) = pick (ltb v (2 ^ 32)) (Number v k) Malformed
 limit Malformed = Malformed
@@ -31,13 +36,3 @@ limit Malformed = Malformed
 unfoldable pub decode : List ℕ → Decoded
 decode [] = Malformed
 decode (b ∷ bs) = pick (ltb b 128) (Number b 1) (limit (extend b (laterGroups 3 bs)))
-
--- a number below m of at most n bytes
-pub record Within (m n v k : ℕ) : Type 0 where
-  pub value : v < m
-  pub count : k ≤ n
-
--- such a number, or none
-abbrev pub Bounded : ℕ → ℕ → Decoded → Type 0
-Bounded m n (Number v k) = Within m n v k
-Bounded m n Malformed = Unit

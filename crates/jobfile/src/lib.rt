@@ -1,10 +1,10 @@
 // Job files: the 25 numbers of a job in groups of seven bits, read (refusals 6, 7, 3, 4, 5) and written (3, 4, 5, 8).
 ghost use mathlib.Core.Path.{_≡_};
-ghost use Prim.Native.Nat.{_≤_, _^_};
+ghost use Prim.Native.Nat.{_≤_, _<_, _^_};
 ghost use mathlib.Core.List.{_++_};
 ghost use lib.ListN.{length, drop};
 ghost use Rattle.jobfile.specs.Encode.{encode, encodeAll};
-ghost use Rattle.jobfile.specs.Decode.{Bounded, lastGroup, extend, limit, laterGroups, decode};
+ghost use Rattle.jobfile.specs.Decode.{lastGroup, extend, after, limit, laterGroups, decode};
 ghost use Rattle.jobfile.specs.Read.{extra, numbersIn, jobIn};
 ghost use Rattle.jobfile.specs.Beginning.{beginningLength};
 ghost use Rattle.jobfile.specs.Write.{greatestLength, writtenOr, answer, written};
@@ -67,25 +67,15 @@ fn wide(b: u8) -> u64
     b as u64
 }
 
-// A last group after others is not 0: the form is the shortest.
-fn last_group(b: u64) -> Decoded
-    ensures { λ r. ⌜ r ≡ lastGroup b ⌝ }
+// The last group, after count others: it is not 0, since the form is the shortest.
+fn last_group(value: u64, weight: u64, count: usize, b: u64) -> Decoded
+    requires { ⌜ (value < weight) × (weight ≤ 2 ^ 28) × (count ≤ 4) × (b < 128) ⌝ }
+    ensures { λ r. ⌜ r ≡ after value weight count (lastGroup b) ⌝ }
 {
     if b == 0 {
         Decoded::Malformed
     } else {
-        Decoded::Number(b, 1)
-    }
-}
-
-// One group before those that were read.
-fn extended(b: u64, later: Decoded) -> Decoded
-    requires { ⌜ Bounded (2 ^ 28) 4 later ⌝ }
-    ensures { λ r. ⌜ r ≡ extend b later ⌝ }
-{
-    match later {
-        Decoded::Number(v, k) => Decoded::Number(v * 128 + b % 128, k + 1),
-        Decoded::Malformed => Decoded::Malformed,
+        Decoded::Number(value + b * weight, count + 1)
     }
 }
 
@@ -105,22 +95,28 @@ fn limited(number: Decoded) -> Decoded
     }
 }
 
-// The groups after the first, of which at most f stand before the last.
-fn later_groups(file: &[u8], at: usize, f: u32) -> Decoded
-    requires { ⌜ f ≤ 3 ⌝ }
-    ensures { λ r. ⌜ r ≡ laterGroups f (drop at (now (file .entry))) ⌝ }
+// The number whose first group is b and whose later groups start at an offset: at most five groups in all.
+fn later_groups(file: &[u8], at: usize, b: u64) -> Decoded
+    ensures { λ r. ⌜ r ≡ extend b (laterGroups 3 (drop at (now (file .entry)))) ⌝ }
 {
-    if file.len() <= at {
-        return Decoded::Malformed;
+    let mut value = b % 128;
+    let mut weight: u64 = 128;
+    let mut count: usize = 1;
+    let mut place = at;
+    while count < 5 {
+        if file.len() <= place {
+            return Decoded::Malformed;
+        }
+        let group = wide(file[place]);
+        if group < 128 {
+            return last_group(value, weight, count, group);
+        }
+        value += group % 128 * weight;
+        weight = weight * 128;
+        count += 1;
+        place += 1;
     }
-    let b = wide(file[at]);
-    if b < 128 {
-        return last_group(b);
-    }
-    if f == 0 {
-        return Decoded::Malformed;
-    }
-    extended(b, later_groups(file, at + 1, f - 1))
+    Decoded::Malformed
 }
 
 // The number whose groups start at an offset.
@@ -134,7 +130,7 @@ fn number_at(file: &[u8], at: usize) -> Decoded
     if b < 128 {
         return Decoded::Number(b, 1);
     }
-    limited(extended(b, later_groups(file, at + 1, 3)))
+    limited(later_groups(file, at + 1, b))
 }
 
 // What follows the numbers, at an offset, is refused.

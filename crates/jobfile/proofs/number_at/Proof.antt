@@ -1,14 +1,13 @@
 -- `number_at` meets its contract. Assumes nothing.
-use Prim.Native.Nat.{ℕ, _^_, _<_, _≤_, _+_}
-use mathlib.Core.Path.{_∙_, sym, ap, subst}
+use Prim.Native.Nat.{ℕ, _<_, _≤_, _+_}
+use mathlib.Core.Path.{_∙_, sym, ap}
 use native.Mathlib.Omega.{arith}
 use denote.Ref.{now}
-use lib.Dec.{lit≤}
 use lib.ListN.{drop, getD}
 use borrow.Author.Needs.{needs}
-use Rattle.jobfile.specs.Decode.{limit, extend, Bounded}
+use Rattle.jobfile.specs.Decode.{limit, extend, laterGroups}
 use Rattle.jobfile.specs.declared.Decoded.the-variants.{Number}
-use Rattle.jobfile.proofs.Decode.{decode-end, decode-one, decode-more, later-small}
+use Rattle.jobfile.proofs.Decode.{decode-end, decode-one, decode-more}
 use Rattle.jobfile.proofs.number_at.Statement.{statement}
 use Rattle.jobfile.proofs.number_at.Tie as tie
 
@@ -26,14 +25,11 @@ number-at-spec =
     ap (λ (v : ℕ). Number v 1) w ∙ sym (decode-one (now (a .file)) (a .at) (omega arith) h))  -- returns-2
     (λ c. search needs)  -- add-later-groups
     (λ c κs. search needs)  -- later-groups-requires
-    (λ c κs.
-    let a = c .before .before .before .before .before .before .args in
-    subst (Bounded (2 ^ 28) 4) (sym (c .later-groups .ensures)) (later-small 3 (drop (a .at + 1) (now (a .file))) (lit≤ tt)))  -- extended-requires
     (λ c κs. search needs)  -- limited-requires
     (λ c.
-    let a = c .before .before .before .before .before .before .before .before .args in
-    let w = c .before .before .before .before .wide .ensures in
-    let h : 128 ≤ getD (now (a .file)) (a .at) 0 = omega (arith, w, c .before .before .before .if2 .left) in
+    let a = c .before .before .before .before .before .before .before .args in
+    let w = c .before .before .before .wide .ensures in
+    let h : 128 ≤ getD (now (a .file)) (a .at) 0 = omega (arith, w, c .before .before .if2 .left) in
     let e = decode-more (now (a .file)) (a .at) (omega arith) h in
-    let x = c .before .extended .ensures ∙ ap (λ (b : ℕ). extend b (c .before .before .later-groups .result)) w in
-    c .limited .ensures ∙ ap limit (x ∙ ap (extend _) (c .before .before .later-groups .ensures)) ∙ sym e))  -- returns-3
+    let x = c .before .later-groups .ensures ∙ ap (λ (b : ℕ). extend b (laterGroups 3 (drop (a .at + 1) (now (a .file))))) w in
+    c .limited .ensures ∙ ap limit x ∙ sym e))  -- returns-3

@@ -3,8 +3,7 @@ use Prim.Native.Nat.{_^_, _-_}
 use mathlib.Core.Path.{_∙_, sym}
 use native.Mathlib.Omega.{arith}
 use borrow.Author.Needs.{needs}
-use Rattle.jobfile.specs.Decode.{Within}
-use Rattle.jobfile.proofs.Decode.{decode-within}
+use Rattle.jobfile.proofs.Decode.{Within, decode-within}
 use Rattle.jobfile.proofs.Reading.{SoFar, so-far-none, so-far-next, so-far-damaged, so-far-all}
 use Rattle.jobfile.proofs.read_numbers.Statement.{statement}
 use Rattle.jobfile.proofs.read_numbers.Tie as tie
