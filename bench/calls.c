@@ -42,14 +42,16 @@ static void compare(int class, int k) {
     uint8_t due[REPORT_ROOM], got[REPORT_ROOM];
     uint64_t first = answer(calls[0].call, &inputs[class][k], due);
     if (rembilung_refusal(first) != refusal_due(class)) {
-        fprintf(stderr, "bench: input %d of class \"%s\" is answered with refusal %u\n", k, classes[class].name, rembilung_refusal(first));
+        fprintf(stderr, "bench: input %d of class \"%s\" is answered with refusal %u\n", k, classes[class].name,
+                rembilung_refusal(first));
         exit(1);
     }
     for (int c = 1; c < call_count; c++) {
         uint64_t other = answer(calls[c].call, &inputs[class][k], got);
         if (other == first && memcmp(due, got, sizeof due) == 0)
             continue;
-        fprintf(stderr, "bench: %s and %s differ on input %d of class \"%s\"\n", calls[0].name, calls[c].name, k, classes[class].name);
+        fprintf(stderr, "bench: %s and %s differ on input %d of class \"%s\"\n", calls[0].name, calls[c].name, k,
+                classes[class].name);
         exit(1);
     }
 }

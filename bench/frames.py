@@ -4,8 +4,6 @@ import re
 
 Instruction = collections.namedtuple("Instruction", "at name operands next")
 ENDS = {"ret", "retq", "ud2", "hlt"}
-# Self-recursion that is allowed: how many calls of itself can stand within one another, and why.
-BOUNDED = {"jobfile::later_groups": (3, "a number of a job file has at most five bytes, so at most four groups after its first")}
 
 
 class Unbounded(Exception):
@@ -70,7 +68,7 @@ class Frames:
     def __init__(self, disassembly):
         self.code = functions(disassembly)
         self.entry = {lines[0].at: name for name, lines in self.code.items() if lines}
-        self.depths, self.active, self.used = {}, [], set()
+        self.depths, self.active = {}, []
 
     def callee(self, at):
         if at not in self.entry:
@@ -93,7 +91,7 @@ class Frames:
     def follow(self, name):
         inside = {one.at: one for one in self.code[name]}
         seen, todo = {}, [(self.code[name][0].at, 0)]
-        deepest, repeated = (0, [name]), 0
+        deepest = (0, [name])
         while todo:
             at, down = todo.pop()
             if seen.setdefault(at, down) != down:
@@ -101,15 +99,13 @@ class Frames:
             one = inside[at]
             after = down + moved(one)
             deepest = max(deepest, (max(after, down + below(one)), [name]))
-            if one.name.startswith("call") and self.callee(target(one)) == name:
-                repeated = max(repeated, down + 8)
-            elif one.name.startswith("call"):
+            if one.name.startswith("call"):
                 depth, path = self.depth(self.callee(target(one)))
                 deepest = max(deepest, (down + 8 + depth, [name] + path))
             elif one.name.startswith("j") and target(one) not in inside:
                 deepest = max(deepest, self.left(name, one, down))
             todo += [(to, after) for to in self.following(one, inside) if (to, after) not in seen.items()]
-        return self.with_recursion(name, deepest, repeated)
+        return deepest
 
     def left(self, name, one, down):
         """A jump out of the function stands for a call that returns to its caller."""
@@ -125,13 +121,3 @@ class Frames:
         if not ends and one.next is None:
             raise Unbounded(f"the code runs out at {one.at:x}")
         return after + ([] if ends else [one.next])
-
-    def with_recursion(self, name, deepest, repeated):
-        """A function that calls itself is bounded only where it is said how often it can."""
-        if repeated == 0:
-            return deepest
-        if name not in BOUNDED:
-            raise Unbounded(f"recursion: {name} calls itself")
-        self.used.add(name)
-        times = BOUNDED[name][0]
-        return deepest[0] + times * repeated, [f"{name} ({times + 1} times)"] + deepest[1][1:]

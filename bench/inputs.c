@@ -42,6 +42,12 @@ static void random_sheet(uint8_t *sheet) {
     }
 }
 
+static uint32_t random_shield(uint32_t enclosure) {
+    if (enclosure == 1)
+        return from_to(1, 2000);
+    return enclosure == 2 ? from_to(300, 700) : from_to(1, 1000);
+}
+
 /* Loads as on real sites more often than at the ends of the ranges, so that verdicts of both kinds come. */
 void random_job(uint32_t family, uint32_t *n) {
     static const uint32_t spacings[] = {105, 130, 155};
@@ -62,7 +68,7 @@ void random_job(uint32_t family, uint32_t *n) {
     n[REMBILUNG_BASIC_WIND] = from_to(0, from_to(0, 3) == 0 ? 2000 : 600);
     n[REMBILUNG_HEIGHT_FACTOR] = from_to(100, from_to(0, 3) == 0 ? 4000 : 1500);
     n[REMBILUNG_ENCLOSURE] = from_to(1, 3);
-    n[REMBILUNG_SHIELD] = n[REMBILUNG_ENCLOSURE] == 1 ? from_to(1, 2000) : n[REMBILUNG_ENCLOSURE] == 2 ? from_to(300, 700) : from_to(1, 1000);
+    n[REMBILUNG_SHIELD] = random_shield(n[REMBILUNG_ENCLOSURE]);
     n[REMBILUNG_WALL_BEHIND] = from_to(1, 2);
     n[REMBILUNG_WALL_THICKNESS] = family == 1 ? from_to(0, 2000) : from_to(181, 2000);
     n[REMBILUNG_WALL_MAKE] = family == 1 ? from_to(1, 3) : 1;

@@ -1,6 +1,11 @@
 /* The four memory functions that the library may ask of its host, byte by byte: a unit brings its own, these stand in. */
 #include <stddef.h>
 
+/* Else the loops below would become calls of these functions. */
+#if defined __GNUC__ && !defined __clang__
+#pragma GCC optimize("no-tree-loop-distribute-patterns")
+#endif
+
 void *memcpy(void *restrict to, const void *restrict from, size_t length);
 void *memmove(void *to, const void *from, size_t length);
 void *memset(void *to, int value, size_t length);

@@ -112,7 +112,9 @@ static int between(uint32_t number, uint32_t low, uint32_t high) {
 
 /* The three ranges that hang on another field. */
 static int spacing_stands(const Job *j) {
-    return j->family == DOUBLE_ROW ? j->spacing == 105 || j->spacing == 130 || j->spacing == 155 : between(j->spacing, 60, 150);
+    if (j->family == DOUBLE_ROW)
+        return j->spacing == 105 || j->spacing == 130 || j->spacing == 155;
+    return between(j->spacing, 60, 150);
 }
 
 static int height_stands(const Job *j) {
@@ -235,7 +237,8 @@ static int height_within(uint64_t force, uint64_t parts, uint64_t fixed, uint64_
 
 static int stability_height(const Job *j, const Tube *tube, const Loads *loads, Factor phi, uint64_t moment) {
     uint64_t area = phi.above * tube->area, bending = STRENGTH * tube->modulus;
-    int calm = height_within(area * STRENGTH / phi.below, 200000, 12 * loads->fittings + 14 * loads->live, 12 * loads->weight);
+    uint64_t fixed = 12 * loads->fittings + 14 * loads->live;
+    int calm = height_within(area * STRENGTH / phi.below, 200000, fixed, 12 * loads->weight);
     if (!wind_due(j))
         return calm;
     if (moment > bending)

@@ -2,7 +2,7 @@
  *
  * A line of jobs is a sheet's number (bench/vary.h) and the 25 numbers. With "step" each call's instructions are counted by
  * the processor's step trap and printed, the library's own and those of the memory functions. "single CALL inputs" sends
- * every input of bench/inputs.c instead. */
+ * every input of bench/inputs.c instead, and prints its class, numbers and file. */
 #define _GNU_SOURCE
 #include <signal.h>
 #include <stdio.h>
@@ -59,7 +59,8 @@ static void send(int which, const Input *in, int step) {
         {(uintptr_t)in->sheet, in->sheet_len, (uintptr_t)in->file, in->file_len, (uintptr_t)report, in->report_len},
         {(uintptr_t)in->numbers, (uintptr_t)report, REMBILUNG_FILE_MOST},
         {(uintptr_t)in->file, in->file_len, (uintptr_t)numbers}};
-    const uintptr_t function[CALLS] = {(uintptr_t)rembilung_verdict, (uintptr_t)rembilung_write_job, (uintptr_t)rembilung_read_job};
+    const uintptr_t function[CALLS] = {(uintptr_t)rembilung_verdict, (uintptr_t)rembilung_write_job,
+                                       (uintptr_t)rembilung_read_job};
     own = lent = 0;
     entry = function[which];
     call_it((const void *)entry, argument[which], step ? 0x100 : 0);
@@ -89,10 +90,23 @@ static int next_job(Input *in) {
     return 1;
 }
 
+static void show_input(int class, const Input *in) {
+    printf("%s;", classes[class].name);
+    for (int k = 0; k < REMBILUNG_NUMBERS; k++)
+        printf(k == 0 ? "%u" : " %u", in->numbers[k]);
+    printf(";");
+    for (size_t k = 0; k < in->file_len; k++)
+        printf("%02x", in->file[k]);
+    printf("\n");
+}
+
 static void send_inputs(int which) {
-    for (int c = 0; c < CLASSES; c++)
-        for (int k = 0; k < PER_CLASS; k++)
+    for (int c = 0; c < CLASSES; c++) {
+        for (int k = 0; k < PER_CLASS; k++) {
             send(which, &inputs[c][k], 0);
+            show_input(c, &inputs[c][k]);
+        }
+    }
 }
 
 int main(int words, char **word) {

@@ -55,7 +55,8 @@ static void keep(int call, size_t depth, const char *where) {
 static void measure(const Input *in, size_t buffer, const char *where) {
     uint8_t report[REMBILUNG_REPORT_MOST];
     uint32_t numbers[REMBILUNG_NUMBERS];
-    const uint64_t verdict[6] = {(uintptr_t)in->sheet, in->sheet_len, (uintptr_t)in->file, in->file_len, (uintptr_t)report, in->report_len};
+    const uint64_t verdict[6] = {(uintptr_t)in->sheet, in->sheet_len,     (uintptr_t)in->file,
+                                 in->file_len,         (uintptr_t)report, in->report_len};
     const uint64_t write[6] = {(uintptr_t)in->numbers, (uintptr_t)report, buffer};
     const uint64_t read[6] = {(uintptr_t)in->file, in->file_len, (uintptr_t)numbers};
     keep(0, depth_of((const void *)(uintptr_t)rembilung_verdict, verdict), where);

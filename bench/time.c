@@ -122,12 +122,14 @@ int main(int words, char **word) {
     make_and_compare();
     take(rounds);
     printf("All calls gave the same answer and the same bytes on %d inputs.\n", CLASSES * PER_CLASS);
-    printf("Time of a call in ns, median of %d rounds; ratios: median (5%%..95%%) over rounds; share in %d of the mix.\n\n", rounds, MIX);
+    printf("Time of a call in ns, median of %d rounds; ratios: median (5%%..95%%) over rounds; ", rounds);
+    printf("share in the mix out of %d.\n\n", MIX);
     show_head();
     for (int class = 0; class <= CLASSES; class++)
         show_row(class, rounds, ratio);
     printf("\n");
     for (int c = 1; c < call_count; c++)
-        printf("time, mix: library / %s = %.3f (aim: at most 1.00): %s\n", calls[c].name, ratio[c], ratio[c] <= 1.0 ? "met" : "NOT MET");
+        printf("time, mix: library / %s = %.3f (aim: at most 1.00): %s\n", calls[c].name, ratio[c],
+               ratio[c] <= 1.0 ? "met" : "NOT MET");
     return 0;
 }
