@@ -73,11 +73,11 @@ static uint64_t examine_sheet(const uint8_t *sheet, size_t length) {
     uint32_t before = 1000;
     for (size_t k = 0; k < ENTRIES; k++) {
         uint32_t now = entry(sheet, k);
-        if (now == 0 || now > before || (k == ENTRIES - 1 && now < 117))
+        if (now == 0 || now > before)
             return refuse(2, k);
         before = now;
     }
-    return 0;
+    return before < 117 ? refuse(2, ENTRIES - 1) : 0;
 }
 
 /* Reads one number and moves on behind it; 0 where it is damaged. */

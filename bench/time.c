@@ -129,7 +129,7 @@ int main(int words, char **word) {
         show_row(class, rounds, ratio);
     printf("\n");
     for (int c = 1; c < call_count; c++)
-        printf("time, mix: library / %s = %.3f (aim: at most 1.00): %s\n", calls[c].name, ratio[c],
+        printf("- time, mix: library / %s = %.3f (aim: at most 1.00): %s\n", calls[c].name, ratio[c],
                ratio[c] <= 1.0 ? "met" : "NOT MET");
     return 0;
 }
