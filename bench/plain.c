@@ -1,4 +1,4 @@
-/* The whole call in plain C, written from document 01 alone: what the library is measured against.
+/* The whole call in plain C, from document 01 as docs/DECISIONS.md reads it: what the library is measured against.
  *
  * Whole numbers throughout, each formula cleared of its fractions. Lengths are in cm, as in the job. The stability height
  * is found by division, a quotient for each of the two pole checks, and not by a search: that is the shorter way. */
