@@ -1,56 +1,55 @@
-/* Says a refusal in words: what was refused, where, and what it may be. */
+/* Says in words what was refused, and why a word is no number. */
 #include "explain.h"
 
 #include <inttypes.h>
 
-#include "fields.h"
 #include "rembilung.h"
 
-static void say_sheet(FILE *to, uint32_t refusal, uint32_t place) {
+const char entry_rule[] = "an entry is 1 to 1000 and no greater than the one before it, and entry 250 is at least 117";
+
+static void say_sheet(Text *to, uint32_t refusal, uint32_t place) {
     if (refusal == 1) {
-        fprintf(to, "the column sheet has %" PRIu32 " bytes, and a column sheet has %d\n", place, REMBILUNG_SHEET_BYTES);
+        text_add(to, "the column sheet has %" PRIu32 " bytes, and a column sheet has %d", place, REMBILUNG_SHEET_BYTES);
         return;
     }
-    fprintf(to, "the column sheet is damaged at entry %" PRIu32 " (bytes %" PRIu32 " and %" PRIu32 "): ", place, 2 * place,
-            2 * place + 1);
-    fputs("an entry is 1 to 1000 and no greater than the one before it, and entry 250 is at least 117\n", to);
+    text_add(to, "the column sheet is damaged at entry %" PRIu32 " (bytes %" PRIu32 " and %" PRIu32 "): %s", place, 2 * place,
+             2 * place + 1, entry_rule);
 }
 
-static void say_range(FILE *to, uint32_t place, const uint32_t *numbers) {
+static void say_range(Text *to, uint32_t place, const uint32_t *numbers) {
     const Field *field = &fields[(place - 1) % REMBILUNG_NUMBERS];
-    fprintf(to, "number %" PRIu32 ", %s, ", place, field->name);
+    text_add(to, "number %" PRIu32 ", %s, ", place, field->name);
     if (numbers != NULL)
-        fprintf(to, "is %" PRIu32, numbers[(place - 1) % REMBILUNG_NUMBERS]);
+        text_add(to, "is %" PRIu32, numbers[(place - 1) % REMBILUNG_NUMBERS]);
     else
-        fputs("is outside its range", to);
-    fprintf(to, "; it may be %s\n", field->range);
+        text_add(to, "is outside its range");
+    text_add(to, "; it may be %s", field->range);
 }
 
-static void say_contradiction(FILE *to, uint32_t place) {
+static void say_contradiction(Text *to, uint32_t place) {
     if (place == 10)
-        fputs("number 10, working layers, is greater than number 9, boarded layers\n", to);
+        text_add(to, "number 10, working layers, is greater than number 9, boarded layers");
     else
-        fputs("number 12, live load summed over layers, is less than number 11, greatest live load on one layer\n", to);
+        text_add(to, "number 12, live load summed over layers, is less than number 11, greatest live load on one layer");
 }
 
-static void say_wall(FILE *to, uint32_t place) {
+static void say_wall(Text *to, uint32_t place) {
     if (place == 20)
-        fputs("number 20, wall thickness: a single row needs a wall of more than 180 mm\n", to);
+        text_add(to, "number 20, wall thickness: a single row needs a wall of more than 180 mm");
     else
-        fputs("number 21, wall make: a single row needs a sound wall, 1\n", to);
+        text_add(to, "number 21, wall make: a single row needs a sound wall, 1");
 }
 
-static void say_file(FILE *to, uint32_t refusal, uint32_t place) {
+static void say_file(Text *to, uint32_t refusal, uint32_t place) {
     if (refusal == 7)
-        fprintf(to, "the job file goes on after its 25th number, from offset %" PRIu32 "\n", place);
+        text_add(to, "the job file goes on after its 25th number, from offset %" PRIu32, place);
     else
-        fprintf(to, "the job file is damaged at offset %" PRIu32 ": the number there is missing, cut off, "
-                    "not in its shortest form or above 4294967295\n", place);
+        text_add(to, "the job file is damaged at offset %" PRIu32 ": the number there is missing, cut off, "
+                     "not in its shortest form or above 4294967295", place);
 }
 
-void explain(FILE *to, uint64_t result, const uint32_t *numbers) {
+void explain(Text *to, uint64_t result, const uint32_t *numbers) {
     uint32_t refusal = rembilung_refusal(result), place = rembilung_place(result);
-    fputs("rembilung: ", to);
     if (refusal <= 2)
         say_sheet(to, refusal, place);
     else if (refusal == 3)
@@ -62,5 +61,32 @@ void explain(FILE *to, uint64_t result, const uint32_t *numbers) {
     else if (refusal <= 7)
         say_file(to, refusal, place);
     else
-        fprintf(to, "a buffer is too short, and needs %" PRIu32 "\n", place);
+        text_add(to, "a buffer is too short, and needs %" PRIu32, place);
+}
+
+void explain_line(FILE *to, uint64_t result, const uint32_t *numbers) {
+    Text words = {{0}, 0};
+    explain(&words, result, numbers);
+    fprintf(to, "rembilung: %s\n", words.bytes);
+}
+
+void explain_number(Text *to, NumberKind kind, const char *bytes, size_t length, const Field *field) {
+    text_add(to, "'");
+    text_add_shown(to, bytes, length);
+    text_add(to, "' is %s; it may be %s", kind == NUMBER_TOO_GREAT ? "too great" : "not a whole number", field->range);
+}
+
+const char *refusal_kind(uint32_t refusal) {
+    static const char *const kinds[] = {
+        "nothing",
+        "the column sheet's length",
+        "an entry of the column sheet",
+        "a number outside its range",
+        "two numbers that contradict each other",
+        "a wall unfit for a single row",
+        "a damaged job file",
+        "a job file that goes on",
+        "a buffer too short",
+    };
+    return refusal < sizeof kinds / sizeof kinds[0] ? kinds[refusal] : "a refusal that is not known";
 }

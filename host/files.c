@@ -2,10 +2,9 @@
 #include "files.h"
 
 #include <errno.h>
-#include <stdio.h>
 #include <string.h>
 
-static int cannot(const char *what, const char *path, int why) {
+int cannot(const char *what, const char *path, int why) {
     fprintf(stderr, "rembilung: cannot %s '%s': %s\n", what, path, strerror(why));
     return 0;
 }
@@ -25,20 +24,39 @@ int read_file(const char *path, uint8_t *bytes, size_t *length) {
     return !more;
 }
 
-int save_file(const char *path, const uint8_t *bytes, size_t length) {
+int open_output(Output *output, const char *path) {
+    output->path = path;
     /* x: a file that is there is never written over. */
-    FILE *to = fopen(path, "wbx");
-    if (to == NULL)
-        return cannot("write", path, errno);
-    int whole = fwrite(bytes, 1, length, to) == length;
+    output->to = path == NULL ? stdout : fopen(path, "wbx");
+    return output->to != NULL ? 1 : cannot("write", path, errno);
+}
+
+int flush_stdout(void) {
+    if (fflush(stdout) == 0 && !ferror(stdout))
+        return 1;
+    perror("rembilung: cannot write to standard output");
+    return 0;
+}
+
+int close_output(Output *output, int keep) {
+    if (output->path == NULL)
+        return flush_stdout();
+    int whole = fflush(output->to) == 0 && !ferror(output->to);
     int why = errno;
-    if (fclose(to) != 0) {
+    if (fclose(output->to) != 0 && whole) {
         whole = 0;
         why = errno;
     }
-    if (whole)
-        return 1;
-    /* Half a job file is worse than none. */
-    remove(path);
-    return cannot("write", path, why);
+    /* Half a file is worse than none. */
+    if (!whole || !keep)
+        remove(output->path);
+    return whole ? 1 : cannot("write", output->path, why);
+}
+
+int save_file(const char *path, const uint8_t *bytes, size_t length) {
+    Output output;
+    if (!open_output(&output, path))
+        return 0;
+    fwrite(bytes, 1, length, output.to);
+    return close_output(&output, 1);
 }

@@ -1,0 +1,18 @@
+/* The commands of the host program; each takes the words after its name and answers the exit status. */
+#ifndef COMMANDS_H
+#define COMMANDS_H
+
+#include "options.h"
+
+/* One job, from 25 numbers or a job file; the command that has no name. */
+int judge_one(Words words);
+/* A job file as named numbers. */
+int show_job(Words words);
+
+/* What may be given; the answer to --help. */
+int show_usage(void);
+
+/* Whether a word is the name of a command. */
+int is_command(const char *word);
+
+#endif

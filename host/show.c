@@ -1,0 +1,34 @@
+/* The command that shows a job file as named numbers. */
+#include <inttypes.h>
+#include <stdio.h>
+
+#include "commands.h"
+#include "fields.h"
+#include "files.h"
+#include "refuse.h"
+#include "rembilung.h"
+#include "status.h"
+
+static int show_numbers(const uint32_t *numbers) {
+    for (int k = 0; k < REMBILUNG_NUMBERS; k++)
+        printf("%4d  %s: %" PRIu32 "  [%s]\n", k + 1, fields[k].name, numbers[k], fields[k].range);
+    return flush_stdout() ? JUDGED : UNUSABLE;
+}
+
+static int show_file(const char *path) {
+    static uint8_t file[FILE_ROOM];
+    uint32_t numbers[REMBILUNG_NUMBERS];
+    size_t length;
+    if (!read_file(path, file, &length))
+        return UNUSABLE;
+    uint64_t read = rembilung_read_job(file, length, numbers);
+    return rembilung_refused(read) ? refuse(read, NULL) : show_numbers(numbers);
+}
+
+int show_job(Words words) {
+    int help = 0;
+    const Option options[] = {{"--help", NULL, &help}};
+    if (!take_options(&words, options, 1) || (!help && !count_is(&words, 1, "show", "the job file")))
+        return UNUSABLE;
+    return help ? show_usage() : show_file(words.words[0]);
+}

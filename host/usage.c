@@ -1,0 +1,32 @@
+/* What --help shows: the commands, their options, and the 25 numbers of a job. */
+#include <stdio.h>
+
+#include "commands.h"
+#include "fields.h"
+#include "files.h"
+#include "status.h"
+
+static const char usage[] =
+    "usage: run [--sheet FILE] [--save FILE] [NUMBER.. | FILE]\n"
+    "       run show FILE\n"
+    "\n"
+    "  run               job J of document 01 under its sheet T\n"
+    "  run NUMBER..      a job of 25 whole numbers, in the order below\n"
+    "  run FILE          a job file (one that is called as a command is, such as show, is given as ./show)\n"
+    "  --sheet FILE      a column sheet of one's own: 502 bytes, 251 entries in thousandths, low byte first\n"
+    "                    (without it: the example sheet C, to be compared with the printed code)\n"
+    "  --save FILE       once judged, also writes the job file; a file of that name is never written over\n"
+    "\n"
+    "  run show FILE     prints the numbers of a job file with their names\n"
+    "\n"
+    "Standard output has the report, or the line 'refused', number, place; standard error says why in words.\n"
+    "Exit status: 0 judged, 1 refused, 2 bad usage or a file that cannot be read or written.\n"
+    "\n"
+    "The 25 numbers:\n";
+
+int show_usage(void) {
+    fputs(usage, stdout);
+    for (int k = 0; k < REMBILUNG_NUMBERS; k++)
+        printf("%4d  %s: %s\n", k + 1, fields[k].name, fields[k].range);
+    return flush_stdout() ? JUDGED : UNUSABLE;
+}
