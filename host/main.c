@@ -9,6 +9,8 @@ typedef struct {
 } Command;
 
 static const Command commands[] = {
+    {"pack-sheet", pack_sheet},
+    {"show-sheet", show_sheet},
     {"show", show_job},
 };
 

@@ -8,6 +8,8 @@
 
 static const char usage[] =
     "usage: run [--sheet FILE] [--save FILE] [NUMBER.. | FILE]\n"
+    "       run pack-sheet TEXT FILE\n"
+    "       run show-sheet FILE\n"
     "       run show FILE\n"
     "\n"
     "  run               job J of document 01 under its sheet T\n"
@@ -17,6 +19,9 @@ static const char usage[] =
     "                    (without it: the example sheet C, to be compared with the printed code)\n"
     "  --save FILE       once judged, also writes the job file; a file of that name is never written over\n"
     "\n"
+    "  run pack-sheet    makes the column sheet FILE from a text of 251 whole numbers, thousandths, between commas,\n"
+    "                    semicolons, spaces or line ends; # begins a remark\n"
+    "  run show-sheet    prints a column sheet as such a text\n"
     "  run show FILE     prints the numbers of a job file with their names\n"
     "\n"
     "Standard output has the report, or the line 'refused', number, place; standard error says why in words.\n"
