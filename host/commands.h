@@ -6,6 +6,8 @@
 
 /* One job, from 25 numbers or a job file; the command that has no name. */
 int judge_one(Words words);
+/* A table of jobs, one row per facade. */
+int depot(Words words);
 /* A column sheet from text, and back. */
 int pack_sheet(Words words);
 int show_sheet(Words words);

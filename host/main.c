@@ -9,6 +9,7 @@ typedef struct {
 } Command;
 
 static const Command commands[] = {
+    {"depot", depot},
     {"pack-sheet", pack_sheet},
     {"show-sheet", show_sheet},
     {"show", show_job},

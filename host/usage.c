@@ -8,16 +8,24 @@
 
 static const char usage[] =
     "usage: run [--sheet FILE] [--save FILE] [NUMBER.. | FILE]\n"
+    "       run depot [--sheet FILE] [--out FILE] TABLE\n"
+    "       run depot --template\n"
     "       run pack-sheet TEXT FILE\n"
     "       run show-sheet FILE\n"
     "       run show FILE\n"
     "\n"
     "  run               job J of document 01 under its sheet T\n"
     "  run NUMBER..      a job of 25 whole numbers, in the order below\n"
-    "  run FILE          a job file (one that is called as a command is, such as show, is given as ./show)\n"
+    "  run FILE          a job file (one that is called as a command is, such as depot, is given as ./depot)\n"
     "  --sheet FILE      a column sheet of one's own: 502 bytes, 251 entries in thousandths, low byte first\n"
     "                    (without it: the example sheet C, to be compared with the printed code)\n"
     "  --save FILE       once judged, also writes the job file; a file of that name is never written over\n"
+    "\n"
+    "  run depot TABLE   a spreadsheet exported as CSV, one row per facade, '-' for standard input; the first row has\n"
+    "                    the names below, in any order, or there is no such row and the numbers stand in the order\n"
+    "                    below; cells are separated by commas, semicolons or tabs (docs/DEPOTS.md says more)\n"
+    "  --out FILE        the answers go there and not to standard output; a file of that name is never written over\n"
+    "  --template        prints the row of names for a new table\n"
     "\n"
     "  run pack-sheet    makes the column sheet FILE from a text of 251 whole numbers, thousandths, between commas,\n"
     "                    semicolons, spaces or line ends; # begins a remark\n"
@@ -26,6 +34,7 @@ static const char usage[] =
     "\n"
     "Standard output has the report, or the line 'refused', number, place; standard error says why in words.\n"
     "Exit status: 0 judged, 1 refused, 2 bad usage or a file that cannot be read or written.\n"
+    "Of depot: 0 every row judged, 1 some row refused or unreadable, 2 bad usage, or a table or sheet that cannot be used.\n"
     "\n"
     "The 25 numbers:\n";
 

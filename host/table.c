@@ -1,0 +1,225 @@
+/* Judges a table of jobs row by row, and writes the table of answers. */
+#include "table.h"
+
+#include <inttypes.h>
+
+#include "answers.h"
+#include "explain.h"
+#include "rembilung.h"
+#include "status.h"
+
+/* A line of progress comes after so many rows, so that a short table has none. */
+#define PROGRESS_ROWS 10000
+
+/* Says on a line of its own why a row was not judged. */
+static void say_row(const Table *table, const Answer *answer) {
+    fprintf(table->said, "rembilung: row %" PRIu64 ", ", answer->row);
+    if (answer->refusal > 0)
+        fprintf(table->said, "refused %" PRIu32 " %" PRIu32 ": ", answer->refusal, answer->place);
+    else
+        fprintf(table->said, "%s: ", answer->result);
+    fprintf(table->said, "%s\n", answer->words.bytes);
+}
+
+static void finish_row(Table *table, const Answer *answer) {
+    put_answer(table->out, table->csv->separator, answer);
+    if (answer->report != NULL)
+        return;
+    say_row(table, answer);
+    if (table->status == JUDGED)
+        table->status = REFUSED;
+}
+
+static void finish_unreadable(Table *table, Answer *answer) {
+    table->tally.unreadable++;
+    answer->result = "unreadable";
+    finish_row(table, answer);
+}
+
+/* 0 where the row has not as many cells as every row of the table. */
+static int width_is_right(const Table *table, Answer *answer) {
+    size_t cells = table->csv->cells, width = table->columns.width, k = 0;
+    char letters[CSV_LETTERS];
+    if (cells == width)
+        return 1;
+    answer->column = cells < width ? cells : width;
+    csv_letters(answer->column, letters);
+    while (k < REMBILUNG_NUMBERS && table->columns.of[k] != answer->column)
+        k++;
+    text_add(&answer->words, "the row has %zu cell%s and %s %zu: column %s", cells, cells == 1 ? "" : "s",
+             table->columns.headed ? "the row of names has" : "a table without a row of names has", width, letters);
+    if (cells > width)
+        text_add(&answer->words, " is the first too many");
+    else
+        text_add(&answer->words, "%s%s, is missing", k < REMBILUNG_NUMBERS ? ", " : "",
+                 k < REMBILUNG_NUMBERS ? fields[k].name : "");
+    return 0;
+}
+
+/* Says what is wrong with the cell of a number. */
+static void explain_cell(Answer *answer, NumberKind kind, const char *bytes, size_t length, const Field *field) {
+    char letters[CSV_LETTERS];
+    csv_letters(answer->column, letters);
+    text_add(&answer->words, "column %s, %s: ", letters, field->name);
+    if (length == 0) {
+        text_add(&answer->words, "the cell is empty; it may be %s", field->range);
+        return;
+    }
+    explain_number(&answer->words, kind, bytes, length, field);
+    if (kind == NUMBER_NOT_WHOLE)
+        text_add(&answer->words, "; digits alone are read, no thousands separator, decimals, sign or unit");
+}
+
+/* 0 where a cell is no number; the first such number of the job is named, and the others are counted. */
+static int read_cells(const Table *table, uint32_t *numbers, Answer *answer) {
+    int bad = 0;
+    for (int k = 0; k < REMBILUNG_NUMBERS; k++) {
+        size_t length;
+        const char *bytes = csv_trimmed(table->csv, table->columns.of[k], &length);
+        NumberKind kind = read_number(bytes, length, &numbers[k]);
+        if (kind == NUMBER_READ || bad++ > 0)
+            continue;
+        answer->column = table->columns.of[k];
+        explain_cell(answer, kind, bytes, length, &fields[k]);
+    }
+    if (bad > 1)
+        text_add(&answer->words, "; cells of the row that are no number: %d", bad);
+    return bad == 0;
+}
+
+static void finish_refused(Table *table, const uint32_t *numbers, uint64_t result, Answer *answer) {
+    char letters[CSV_LETTERS];
+    answer->result = "refused";
+    answer->refusal = rembilung_refusal(result);
+    answer->place = rembilung_place(result);
+    tally_refused(&table->tally, answer->refusal);
+    /* The places of refusals 3, 4 and 5 are numbers of the job. */
+    if (answer->refusal >= 3 && answer->refusal <= 5) {
+        answer->column = table->columns.of[(answer->place - 1) % REMBILUNG_NUMBERS];
+        csv_letters(answer->column, letters);
+        text_add(&answer->words, "column %s: ", letters);
+    }
+    explain(&answer->words, result, numbers);
+    finish_row(table, answer);
+}
+
+static void finish_judged(Table *table, const uint32_t *numbers, const Report *report, Answer *answer) {
+    int failing = first_failing(report);
+    answer->report = report;
+    answer->height = numbers[REMBILUNG_HEIGHT];
+    answer->result = failing == 0 ? "passes" : "fails";
+    if (failing > 0)
+        text_add(&answer->words, "check %d fails: %s", failing, check_names[failing - 1]);
+    tally_judged(&table->tally, report);
+    finish_row(table, answer);
+}
+
+static void judge_numbers(Table *table, const uint32_t *numbers, Answer *answer) {
+    uint8_t file[REMBILUNG_FILE_MOST], bytes[REMBILUNG_REPORT_MOST];
+    Report report;
+    uint64_t result = rembilung_write_job(numbers, file, sizeof file);
+    if (!rembilung_refused(result))
+        result = rembilung_verdict(table->sheet, table->sheet_length, file, (size_t)result, bytes, sizeof bytes);
+    if (rembilung_refused(result)) {
+        finish_refused(table, numbers, result, answer);
+        return;
+    }
+    if (read_report(bytes, (size_t)result, &report)) {
+        finish_judged(table, numbers, &report, answer);
+        return;
+    }
+    fprintf(table->said, "rembilung: row %" PRIu64 ": the library's report is not one that this program knows\n", answer->row);
+    table->status = UNUSABLE;
+}
+
+/* Begins the answer to the row last read, with its name where the row is whole and has one. */
+static void begin_answer(const Table *table, CsvResult read, Answer *answer) {
+    answer->row = table->csv->row;
+    answer->column = NO_COLUMN;
+    answer->name = "";
+    if (read == CSV_ROW && table->columns.name < table->csv->cells)
+        answer->name = csv_cell(table->csv, table->columns.name, &answer->name_length);
+}
+
+static void judge_row(Table *table, CsvResult read) {
+    Answer answer = {0};
+    uint32_t numbers[REMBILUNG_NUMBERS] = {0};
+    begin_answer(table, read, &answer);
+    table->tally.rows++;
+    if (read != CSV_ROW) {
+        text_add(&answer.words, "%s", csv_fault(read));
+        finish_unreadable(table, &answer);
+    } else if (!width_is_right(table, &answer) || !read_cells(table, numbers, &answer)) {
+        finish_unreadable(table, &answer);
+    } else {
+        judge_numbers(table, numbers, &answer);
+    }
+    if (table->tally.rows % PROGRESS_ROWS == 0)
+        fprintf(table->said, "rembilung: %" PRIu64 " rows so far\n", table->tally.rows);
+}
+
+/* A damaged row is the last: where the next begins is not known. */
+static void finish_damaged(Table *table, CsvResult read) {
+    Answer answer = {0};
+    char letters[CSV_LETTERS];
+    begin_answer(table, read, &answer);
+    answer.column = table->csv->cells;
+    answer.result = "damaged";
+    csv_letters(answer.column, letters);
+    text_add(&answer.words, "column %s: %s", letters, csv_fault(read));
+    if (read == CSV_OPEN_QUOTE)
+        text_add(&answer.words, " (it stands on line %" PRIu64 " of the file)", table->csv->quote_line);
+    text_add(&answer.words, "; neither this row nor any after it was judged");
+    if (table->columns_known)
+        put_answer(table->out, table->csv->separator, &answer);
+    say_row(table, &answer);
+    table->status = UNUSABLE;
+}
+
+/* From the first row that is not blank; the names of the answers are written once the table can be read. */
+static void learn_columns(Table *table, CsvResult read) {
+    if (read != CSV_ROW)
+        fprintf(table->said, "rembilung: row %" PRIu64 ": %s\n", table->csv->row, csv_fault(read));
+    table->columns_known = read == CSV_ROW && columns_of(table->csv, &table->columns, table->said);
+    if (!table->columns_known) {
+        table->status = UNUSABLE;
+        return;
+    }
+    /* A spreadsheet tells UTF-8 by the mark, so names that came with it go with it. */
+    if (table->csv->marked)
+        fputs("\xEF\xBB\xBF", table->out);
+    put_answer_names(table->out, table->csv->separator);
+}
+
+static void take_row(Table *table, CsvResult read) {
+    if (read >= CSV_OPEN_QUOTE) {
+        finish_damaged(table, read);
+        return;
+    }
+    if (read == CSV_ROW && csv_is_blank(table->csv)) {
+        table->tally.blank++;
+        return;
+    }
+    if (table->csv->broken)
+        tally_broken(&table->tally, table->csv->row);
+    int is_job = 1;
+    if (!table->columns_known) {
+        learn_columns(table, read);
+        is_job = table->columns_known && !table->columns.headed;
+    }
+    if (is_job)
+        judge_row(table, read);
+}
+
+static int is_stopped(const Table *table) {
+    return table->status == UNUSABLE || *table->stop != 0 || ferror(table->out);
+}
+
+int judge_table(Table *table) {
+    CsvResult read = csv_read(table->csv);
+    while (read != CSV_END && !is_stopped(table)) {
+        take_row(table, read);
+        read = csv_read(table->csv);
+    }
+    return is_stopped(table) ? UNUSABLE : table->status;
+}
