@@ -26,11 +26,15 @@ static int field_named(const Csv *row, size_t cell) {
     return k;
 }
 
-static int any_name(const Csv *row) {
-    size_t cell = 0;
-    while (cell < row->cells && field_named(row, cell) == REMBILUNG_NUMBERS)
-        cell++;
-    return cell < row->cells;
+static int count_names(const Csv *row) {
+    int names = 0;
+    for (size_t cell = 0; cell < row->cells; cell++)
+        names += field_named(row, cell) < REMBILUNG_NUMBERS;
+    return names;
+}
+
+int has_names(const Csv *row) {
+    return count_names(row) > 1;
 }
 
 static int any_number(const Csv *row) {
@@ -109,7 +113,7 @@ static void by_order(Columns *columns) {
 
 int columns_of(const Csv *first, Columns *columns, FILE *said) {
     columns->name = NO_COLUMN;
-    if (any_name(first))
+    if (count_names(first) > 0)
         return by_names(first, columns, said);
     if (!any_number(first)) {
         fprintf(said, "rembilung: row %" PRIu64 " has neither the names of a job's numbers nor numbers, "

@@ -21,6 +21,9 @@ typedef struct {
  * name is missing or comes twice, and that was said. */
 int columns_of(const Csv *first, Columns *columns, FILE *said);
 
+/* Whether several cells of a row are names of a job's numbers; a facade may be called as one of them is. */
+int has_names(const Csv *row);
+
 /* Prints the names as such a row. */
 void print_template(FILE *to);
 

@@ -176,12 +176,15 @@ int csv_is_blank(const Csv *csv) {
     return length == 0;
 }
 
+#define DIGITS_AS_GIVEN(number) #number
+#define DIGITS(number) DIGITS_AS_GIVEN(number)
+
 const char *csv_fault(CsvResult result) {
     switch (result) {
     case CSV_ROW_TOO_LONG:
-        return "the row has more than 65536 bytes, and is not read";
+        return "the row has more than " DIGITS(CSV_ROW_BYTES) " bytes, and is not read";
     case CSV_TOO_MANY_CELLS:
-        return "the row has more than 1024 cells, and is not read";
+        return "the row has more than " DIGITS(CSV_ROW_CELLS) " cells, and is not read";
     case CSV_OPEN_QUOTE:
         return "a cell begins with a quote that is never closed";
     case CSV_TEXT_AFTER_QUOTE:

@@ -6,10 +6,13 @@
 #include <stdint.h>
 #include <stdio.h>
 
-/* No row is kept that is longer, its quotes and separators not counted, or has more cells. */
+/* No row is kept that is longer, its quotes and separators not counted, or has more cells; and how many bytes are read at
+ * a time. Tests that have to reach these limits with little make them small. */
+#ifndef CSV_ROW_BYTES
 #define CSV_ROW_BYTES 65536
 #define CSV_ROW_CELLS 1024
 #define CSV_AHEAD 65536
+#endif
 
 /* Where the bytes come from: more puts up to room of them into a buffer and says how many, 0 at the end. */
 typedef struct {

@@ -126,10 +126,14 @@ int depot(Words words) {
         return UNUSABLE;
     if (asked.help)
         return show_usage();
-    if (!count_is(&words, asked.template ? 0 : 1, "depot", "a table"))
+    if (asked.template && (asked.sheet_path != NULL || asked.out_path != NULL || words.count > 0)) {
+        misused("nothing else is given with", "--template");
         return UNUSABLE;
+    }
     if (asked.template)
         return show_template();
+    if (!count_is(&words, 1, "depot", "a table"))
+        return UNUSABLE;
     asked.table_path = words.words[0];
     return judge_file(&asked);
 }

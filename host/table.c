@@ -13,12 +13,11 @@
 
 /* Says on a line of its own why a row was not judged. */
 static void say_row(const Table *table, const Answer *answer) {
-    fprintf(table->said, "rembilung: row %" PRIu64 ", ", answer->row);
+    Text numbers = {{0}, 0};
     if (answer->refusal > 0)
-        fprintf(table->said, "refused %" PRIu32 " %" PRIu32 ": ", answer->refusal, answer->place);
-    else
-        fprintf(table->said, "%s: ", answer->result);
-    fprintf(table->said, "%s\n", answer->words.bytes);
+        text_add(&numbers, " %" PRIu32 " %" PRIu32, answer->refusal, answer->place);
+    fprintf(table->said, "rembilung: row %" PRIu64 ", %s%s: %s\n", answer->row, answer->result, numbers.bytes,
+            answer->words.bytes);
 }
 
 static void finish_row(Table *table, const Answer *answer) {
@@ -50,9 +49,10 @@ static int width_is_right(const Table *table, Answer *answer) {
              table->columns.headed ? "the row of names has" : "a table without a row of names has", width, letters);
     if (cells > width)
         text_add(&answer->words, " is the first too many");
+    else if (k < REMBILUNG_NUMBERS)
+        text_add(&answer->words, ", %s, is missing", fields[k].name);
     else
-        text_add(&answer->words, "%s%s, is missing", k < REMBILUNG_NUMBERS ? ", " : "",
-                 k < REMBILUNG_NUMBERS ? fields[k].name : "");
+        text_add(&answer->words, " is missing");
     return 0;
 }
 
@@ -141,39 +141,58 @@ static void begin_answer(const Table *table, CsvResult read, Answer *answer) {
         answer->name = csv_cell(table->csv, table->columns.name, &answer->name_length);
 }
 
+/* The last row that is answered, since what stands after it cannot be trusted. */
+static void finish_damaged(Table *table, Answer *answer) {
+    answer->result = "damaged";
+    text_add(&answer->words, "; neither this row nor any after it was judged");
+    if (table->columns_known)
+        put_answer(table->out, table->csv->separator, answer);
+    say_row(table, answer);
+    table->status = UNUSABLE;
+}
+
+/* Names in a later row: two tables in one file, or a title above the names; the columns may be others from there on. */
+static void stop_at_names(Table *table) {
+    Answer answer = {0};
+    begin_answer(table, CSV_ROW, &answer);
+    text_add(&answer.words, "names of a job's numbers stand here, and they may stand in the first row alone");
+    finish_damaged(table, &answer);
+}
+
+/* Where the row ends is not known, so neither is where the next begins. */
+static void stop_at_damage(Table *table, CsvResult read) {
+    Answer answer = {0};
+    char letters[CSV_LETTERS];
+    begin_answer(table, read, &answer);
+    if (read != CSV_UTF_16) {
+        answer.column = table->csv->cells;
+        csv_letters(answer.column, letters);
+        text_add(&answer.words, "column %s: ", letters);
+    }
+    text_add(&answer.words, "%s", csv_fault(read));
+    if (read == CSV_OPEN_QUOTE)
+        text_add(&answer.words, " (it stands on line %" PRIu64 " of the file)", table->csv->quote_line);
+    finish_damaged(table, &answer);
+}
+
 static void judge_row(Table *table, CsvResult read) {
     Answer answer = {0};
     uint32_t numbers[REMBILUNG_NUMBERS] = {0};
     begin_answer(table, read, &answer);
-    table->tally.rows++;
-    if (read != CSV_ROW) {
+    if (read != CSV_ROW)
         text_add(&answer.words, "%s", csv_fault(read));
-        finish_unreadable(table, &answer);
-    } else if (!width_is_right(table, &answer) || !read_cells(table, numbers, &answer)) {
-        finish_unreadable(table, &answer);
-    } else {
-        judge_numbers(table, numbers, &answer);
+    int whole = read == CSV_ROW && width_is_right(table, &answer) && read_cells(table, numbers, &answer);
+    if (!whole && read == CSV_ROW && has_names(table->csv)) {
+        stop_at_names(table);
+        return;
     }
+    table->tally.rows++;
+    if (whole)
+        judge_numbers(table, numbers, &answer);
+    else
+        finish_unreadable(table, &answer);
     if (table->tally.rows % PROGRESS_ROWS == 0)
         fprintf(table->said, "rembilung: %" PRIu64 " rows so far\n", table->tally.rows);
-}
-
-/* A damaged row is the last: where the next begins is not known. */
-static void finish_damaged(Table *table, CsvResult read) {
-    Answer answer = {0};
-    char letters[CSV_LETTERS];
-    begin_answer(table, read, &answer);
-    answer.column = table->csv->cells;
-    answer.result = "damaged";
-    csv_letters(answer.column, letters);
-    text_add(&answer.words, "column %s: %s", letters, csv_fault(read));
-    if (read == CSV_OPEN_QUOTE)
-        text_add(&answer.words, " (it stands on line %" PRIu64 " of the file)", table->csv->quote_line);
-    text_add(&answer.words, "; neither this row nor any after it was judged");
-    if (table->columns_known)
-        put_answer(table->out, table->csv->separator, &answer);
-    say_row(table, &answer);
-    table->status = UNUSABLE;
 }
 
 /* From the first row that is not blank; the names of the answers are written once the table can be read. */
@@ -193,7 +212,7 @@ static void learn_columns(Table *table, CsvResult read) {
 
 static void take_row(Table *table, CsvResult read) {
     if (read >= CSV_OPEN_QUOTE) {
-        finish_damaged(table, read);
+        stop_at_damage(table, read);
         return;
     }
     if (read == CSV_ROW && csv_is_blank(table->csv)) {
