@@ -1,4 +1,6 @@
 /* The command that judges a depot's table of jobs: one row per facade, exported from a spreadsheet as CSV. */
+#define _POSIX_C_SOURCE 200112L
+
 #include <errno.h>
 #include <signal.h>
 #include <stdio.h>
@@ -35,8 +37,20 @@ static void stop(int signal_number) {
     stopped = 1;
 }
 
+/* Without SA_RESTART, so that a read which waits for more ends too. */
+static void heed_signals(void) {
+    struct sigaction action;
+    memset(&action, 0, sizeof action);
+    action.sa_handler = stop;
+    sigemptyset(&action.sa_mask);
+    sigaction(SIGINT, &action, NULL);
+    sigaction(SIGTERM, &action, NULL);
+}
+
 static size_t more_of_file(void *from, char *into, size_t room) {
     Input *input = from;
+    if (stopped || input->why != 0)
+        return 0;
     size_t taken = fread(into, 1, room, input->from);
     if (ferror(input->from))
         input->why = errno;
@@ -104,8 +118,7 @@ static int judge_file(const Asked *asked) {
         return UNUSABLE;
     if (!open_output(&output, asked->out_path))
         return UNUSABLE;
-    signal(SIGINT, stop);
-    signal(SIGTERM, stop);
+    heed_signals();
     int status = judge_input(&input, &sheet, output.to);
     fclose(input.from);
     return close_output(&output, status != UNUSABLE) ? status : UNUSABLE;
