@@ -1,4 +1,4 @@
-/* Reads a table of comma-separated values row by row, in memory that does not grow, and writes cells that read back the same. */
+/* Reads a table of comma-separated values row by row, in memory that does not grow; writes cells that read back the same. */
 #ifndef CSV_H
 #define CSV_H
 

@@ -106,7 +106,8 @@ static int judge_input(Input *input, const Sheet *sheet, FILE *out) {
     csv_open(&csv, source);
     if (csv.separator != ',')
         fprintf(stderr, "rembilung: cells are separated by %s\n", csv.separator == ';' ? "semicolons" : "tabs");
-    Table table = {.csv = &csv, .sheet = sheet->bytes, .sheet_length = sheet->length, .out = out, .said = stderr, .stop = &stopped};
+    Table table = {.csv = &csv, .sheet = sheet->bytes, .sheet_length = sheet->length, .out = out, .said = stderr,
+                   .stop = &stopped};
     return conclude(&table, input, judge_table(&table));
 }
 
@@ -116,12 +117,15 @@ static int judge_file(const Asked *asked) {
     Output output;
     if (!prepare_sheet(asked->sheet_path, &sheet) || !open_input(&input, asked->table_path))
         return UNUSABLE;
-    if (!open_output(&output, asked->out_path))
-        return UNUSABLE;
-    heed_signals();
-    int status = judge_input(&input, &sheet, output.to);
+    int status = UNUSABLE;
+    if (open_output(&output, asked->out_path)) {
+        heed_signals();
+        status = judge_input(&input, &sheet, output.to);
+        if (!close_output(&output, status != UNUSABLE))
+            status = UNUSABLE;
+    }
     fclose(input.from);
-    return close_output(&output, status != UNUSABLE) ? status : UNUSABLE;
+    return status;
 }
 
 static int show_template(void) {

@@ -12,8 +12,8 @@ static void say_sheet(Text *to, uint32_t refusal, uint32_t place) {
         text_add(to, "the column sheet has %" PRIu32 " bytes, and a column sheet has %d", place, REMBILUNG_SHEET_BYTES);
         return;
     }
-    text_add(to, "the column sheet is damaged at entry %" PRIu32 " (bytes %" PRIu32 " and %" PRIu32 "): %s", place, 2 * place,
-             2 * place + 1, entry_rule);
+    text_add(to, "the column sheet is damaged at entry %" PRIu32 " (bytes %" PRIu32 " and %" PRIu32 "): %s", place,
+             2 * place, 2 * place + 1, entry_rule);
 }
 
 static void say_range(Text *to, uint32_t place, const uint32_t *numbers) {

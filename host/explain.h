@@ -9,7 +9,7 @@
 #include "number.h"
 #include "text.h"
 
-/* A refusal: what, where, and what it may be. numbers may be null, where the job came as a file and no value can be shown. */
+/* A refusal: what, where, and what it may be. numbers may be null, where a job came as a file and no value can be shown. */
 void explain(Text *to, uint64_t result, const uint32_t *numbers);
 
 /* A refusal on a line of its own. */

@@ -128,7 +128,8 @@ static void judge_numbers(Table *table, const uint32_t *numbers, Answer *answer)
         finish_judged(table, numbers, &report, answer);
         return;
     }
-    fprintf(table->said, "rembilung: row %" PRIu64 ": the library's report is not one that this program knows\n", answer->row);
+    fprintf(table->said, "rembilung: row %" PRIu64 ": the library's report is not one that this program knows\n",
+            answer->row);
     table->status = UNUSABLE;
 }
 

@@ -1,4 +1,4 @@
-/* Fuzzes the judging of a table: whatever the table, the answers are a table of one width in which every row is accounted for. */
+/* Fuzzes the judging of a table: whatever it is, the answers are a table of one width, and every row is accounted for. */
 #define _POSIX_C_SOURCE 200809L
 #include "fuzz.h"
 #include "sheet.h"
@@ -51,7 +51,8 @@ static void judge(const char *bytes, size_t length, FILE *out, FILE *said, Table
     Memory memory = {bytes, length, length + 1};
     example_sheet(&sheet);
     open_memory(&csv, &memory);
-    Table begun = {.csv = &csv, .sheet = sheet.bytes, .sheet_length = sheet.length, .out = out, .said = said, .stop = &never};
+    Table begun = {.csv = &csv, .sheet = sheet.bytes, .sheet_length = sheet.length, .out = out, .said = said,
+                   .stop = &never};
     *table = begun;
     table->status = judge_table(table);
 }
