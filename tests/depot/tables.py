@@ -1,4 +1,4 @@
-"""Tables as depots send them, and what is due for each; written by hand from document 01, its job J and the text of docs/DEPOTS.md."""
+"""Tables as depots send them and what is due for each, by hand from document 01, its job J and docs/DEPOTS.md."""
 
 FIELDS = ["family", "tube", "pole spacing across", "bay", "step", "tie interval", "height", "boards", "boarded layers",
           "working layers", "greatest live load on one layer", "live load summed over layers", "nets per pole",
