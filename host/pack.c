@@ -64,21 +64,30 @@ int pack_sheet(Words words) {
     return help ? show_usage() : pack_file(words.words[0], words.words[1]);
 }
 
-static int show_file(const char *path) {
-    static Sheet sheet;
-    if (!read_sheet(&sheet, path))
-        return UNUSABLE;
-    uint64_t checked = check_sheet(sheet.bytes, sheet.length);
+static int show(const Sheet *sheet) {
+    uint64_t checked = check_sheet(sheet->bytes, sheet->length);
     if (rembilung_refused(checked))
         return refuse(checked, NULL);
-    print_sheet_text(stdout, sheet.bytes);
+    print_sheet_text(stdout, sheet->bytes);
     return flush_stdout() ? JUDGED : UNUSABLE;
+}
+
+/* The sheet that is named, or else the example sheet C, so that it can be compared with the printed code. */
+static int show_named(const Words *words) {
+    static Sheet sheet;
+    if (words->count == 0)
+        example_sheet(&sheet);
+    else if (!read_sheet(&sheet, words->words[0]))
+        return UNUSABLE;
+    return show(&sheet);
 }
 
 int show_sheet(Words words) {
     int help = 0;
     const Option options[] = {{"--help", NULL, &help}};
-    if (!take_options(&words, options, 1) || (!help && !count_is(&words, 1, "show-sheet", "a column sheet")))
+    if (!take_options(&words, options, 1))
         return UNUSABLE;
-    return help ? show_usage() : show_file(words.words[0]);
+    if (help)
+        return show_usage();
+    return words.count <= 1 || count_is(&words, 1, "show-sheet", "a column sheet") ? show_named(&words) : UNUSABLE;
 }

@@ -82,10 +82,15 @@ UNUSABLE = [
 ]
 
 
-def shown_t():
-    """What show-sheet prints of sheet T: ten entries a line."""
+def shown(sheet):
+    """What show-sheet prints of a sheet: ten entries a line."""
     rows = [(k, min(k + 9, 250)) for k in range(0, 251, 10)]
-    return "".join(" ".join(str(T[k]) for k in range(a, b + 1)) + f" # {a} to {b}\n" for a, b in rows)
+    return "".join(" ".join(str(sheet[k]) for k in range(a, b + 1)) + f" # {a} to {b}\n" for a, b in rows)
+
+
+def table_c():
+    """Sheet C as the vectors transcribe it: a row begins with the slenderness of its first entry."""
+    return [int(entry) for _, (row,) in vectors("sheet-c.txt") for entry in row.split()[1:]]
 
 
 # What show prints of job J, whole.

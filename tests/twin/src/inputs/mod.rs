@@ -1,0 +1,102 @@
+//! The calls of the run: a fixed list of kinds for each block of calls, each kind taken in turn.
+
+pub mod damage;
+pub mod ends;
+pub mod exact;
+pub mod faults;
+pub mod files;
+pub mod jobs;
+pub mod kinds;
+pub mod required;
+pub mod sheets;
+pub mod tuned;
+
+use crate::call::Call;
+use crate::coverage::{Cell, Expect};
+use crate::paper::job::Job;
+use crate::random::Random;
+
+/// A call with the cells that it fills when the library answers as expected.
+pub struct Planned {
+    pub call: Call,
+    pub cells: Vec<(Cell, Expect)>,
+}
+
+/// What has to hold among the library's answers to the calls of one turn, beside each being the twin's.
+#[derive(Clone, Copy, PartialEq)]
+pub enum Relation {
+    Nothing,
+    /// Demand 3's first half: the second call's job is no lighter than the first's.
+    Pair,
+    /// Demand 3's second half: the calls' jobs differ in height alone.
+    Heights,
+}
+
+/// The calls of one turn.
+pub struct Turn {
+    pub calls: Vec<Planned>,
+    pub relation: Relation,
+}
+
+/// What every turn may look up: the searches and the list of ends.
+pub struct Lists {
+    pub atlas: exact::Atlas,
+    pub ends: Vec<ends::End>,
+}
+
+impl Lists {
+    pub fn new() -> Lists {
+        Lists { atlas: exact::search(), ends: ends::all() }
+    }
+}
+
+/// A kind of turn, the turns of it in one block and the calls of one turn.
+struct Kind {
+    make: fn(&mut Random, &Lists, u64) -> Turn,
+    turns: u64,
+    calls: usize,
+}
+
+const KINDS: [Kind; 20] = [
+    Kind { make: kinds::uniform, turns: 140, calls: 1 },
+    Kind { make: damage::wild, turns: 24, calls: 1 },
+    Kind { make: damage::end, turns: 90, calls: 1 },
+    Kind { make: damage::contradiction, turns: 12, calls: 1 },
+    Kind { make: kinds::tuned, turns: 66, calls: 4 },
+    Kind { make: kinds::deflection, turns: 7, calls: 2 },
+    Kind { make: kinds::at_limit, turns: 44, calls: 1 },
+    Kind { make: kinds::exact, turns: 10, calls: 1 },
+    Kind { make: kinds::stability, turns: 24, calls: 1 },
+    Kind { make: kinds::due, turns: 12, calls: 1 },
+    Kind { make: kinds::slender, turns: 12, calls: 1 },
+    Kind { make: damage::damaged_sheet, turns: 70, calls: 1 },
+    Kind { make: damage::sheet_length, turns: 20, calls: 1 },
+    Kind { make: damage::broken_file, turns: 60, calls: 1 },
+    Kind { make: damage::shaken_file, turns: 40, calls: 1 },
+    Kind { make: damage::faults, turns: 60, calls: 1 },
+    Kind { make: damage::report_buffer, turns: 30, calls: 1 },
+    Kind { make: damage::file_buffer, turns: 12, calls: 1 },
+    Kind { make: kinds::pair, turns: 44, calls: 2 },
+    Kind { make: kinds::heights, turns: 20, calls: 3 },
+];
+
+/// The number of calls in a block.
+pub fn block_length() -> usize {
+    KINDS.iter().map(|kind| kind.turns as usize * kind.calls).sum()
+}
+
+/// The turns of a block; they depend on the seed and the block's number alone.
+pub fn block(lists: &Lists, seed: u64, number: u64) -> impl Iterator<Item = Turn> {
+    let mut random = Random::new(seed, number);
+    KINDS.iter().flat_map(|kind| (0..kind.turns).map(move |turn| (kind, turn))).map(move |(kind, turn)| {
+        let turn = (kind.make)(&mut random, lists, number * kind.turns + turn);
+        assert_eq!(turn.calls.len(), kind.calls);
+        turn
+    })
+}
+
+/// The whole call on a job under a sheet, with a buffer that is long enough.
+pub fn verdict(random: &mut Random, job: &Job, sheet: &[u16; 251]) -> Call {
+    let report = random.within(164, 176) as usize;
+    Call::Verdict { sheet: sheets::to_bytes(sheet), file: files::whole(job), report, fill: random.next() }
+}

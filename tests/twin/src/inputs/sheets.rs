@@ -1,0 +1,75 @@
+//! Column sheets: valid ones of several shapes, damaged ones, and ones of a wrong length.
+
+use crate::random::Random;
+
+pub type Entries = [u16; 251];
+
+/// The least that entry 250, and so every entry, may be.
+const LEAST: u32 = 117;
+
+/// Sheet T: entry k is 1000 − 4k, but at least 150.
+pub fn sheet_t() -> Entries {
+    std::array::from_fn(|k| (1000 - 4 * k as i32).max(150) as u16)
+}
+
+pub fn to_bytes(entries: &Entries) -> Vec<u8> {
+    entries.iter().flat_map(|entry| entry.to_le_bytes()).collect()
+}
+
+/// A valid sheet of one of eight shapes.
+pub fn valid(random: &mut Random) -> Entries {
+    let low = random.within(LEAST, 1000);
+    match random.below(8) {
+        0 => sheet_t(),
+        1 => [1000; 251],
+        2 => [low as u16; 251],
+        3 => falling(random, LEAST, 1000),
+        4 => with_last(falling(random, LEAST, 1000), LEAST as u16),
+        5 => steep(random),
+        6 => std::array::from_fn(|k| (7_320_000 / (k * k).max(1)).clamp(LEAST as usize, 1000) as u16),
+        _ => falling(random, LEAST, low),
+    }
+}
+
+/// A valid sheet whose entry z is `entry`, at least 117.
+pub fn through(random: &mut Random, z: usize, entry: u32) -> Entries {
+    let (before, after) = (falling(random, entry, 1000), falling(random, LEAST, entry));
+    std::array::from_fn(|k| match k.cmp(&z) {
+        std::cmp::Ordering::Less => before[k],
+        std::cmp::Ordering::Equal => entry as u16,
+        std::cmp::Ordering::Greater => after[k],
+    })
+}
+
+fn falling(random: &mut Random, least: u32, most: u32) -> Entries {
+    let mut entries = std::array::from_fn(|_| random.within(least, most) as u16);
+    entries.sort_unstable_by(|one, other| other.cmp(one));
+    entries
+}
+
+fn steep(random: &mut Random) -> Entries {
+    let (fall, floor) = (random.within(3, 40), random.within(LEAST, 300));
+    std::array::from_fn(|k| 1000u32.saturating_sub(fall * k as u32).max(floor) as u16)
+}
+
+fn with_last(mut entries: Entries, last: u16) -> Entries {
+    entries[250] = last;
+    entries
+}
+
+/// A sheet whose first damaged entry is k; damage behind k is added at times.
+/// Faults: 0 zero, 1 above the one before (not in entry 0), 2 above 1,000, 3 last below 117.
+pub fn damaged(random: &mut Random, k: usize, fault: usize) -> Entries {
+    let low = random.within(LEAST, 998);
+    let mut entries = if random.once_in(2) { [low as u16; 251] } else { falling(random, LEAST, 998) };
+    entries[k] = match fault {
+        0 => 0,
+        1 => entries[k - 1] + 1,
+        2 => random.pick(&[1001, 1002, 65_535, 4_096]),
+        _ => random.pick(&[116, 116, 1, 115]),
+    };
+    if random.once_in(3) && k < 250 {
+        entries[random.within(k as u32 + 1, 250) as usize] = random.pick(&[0, 1001, 65_535]);
+    }
+    entries
+}

@@ -1,0 +1,137 @@
+//! Tuned jobs: a check at its limit, found by bisecting one field with the twin.
+
+use super::jobs::{accepted, bounds};
+use super::sheets::{through, valid};
+use crate::paper::checks::check;
+use crate::paper::figures::{column_slenderness, pole_force};
+use crate::paper::heights::{pole_checks_pass, stability};
+use crate::paper::job::Job;
+use crate::paper::sheet::Sheet;
+use crate::random::Random;
+
+/// The fields by which each check is brought to its limit.
+const FIELDS: [&[usize]; 11] = [
+    &[11, 4, 3],
+    &[11, 4, 3],
+    &[11, 4, 3],
+    &[11, 4, 3],
+    &[11, 4, 3],
+    &[5, 5, 6],
+    &[13, 7, 14, 12, 4, 5, 9, 10, 3],
+    &[13, 7, 14, 12, 15, 16, 18, 4, 5],
+    &[22, 15, 16, 18, 4, 5],
+    &[13, 7, 14, 12, 4, 9, 10, 3],
+    &[24, 25, 13, 7, 14, 12, 4],
+];
+
+/// Two jobs a single step of one field apart: the check passes for one and fails for the other.
+pub struct Edge {
+    pub sheet: Sheet,
+    pub passing: Job,
+    pub failing: Job,
+    pub field: usize,
+}
+
+/// What is tuned: a check in a family and a tube.
+#[derive(Clone, Copy)]
+pub struct Aim {
+    pub check: usize,
+    pub family: u32,
+    pub tube: u32,
+}
+
+impl Aim {
+    /// The 44 aims in turn.
+    pub fn number(turn: u64) -> Aim {
+        let (check, rest) = (turn % 11, turn / 11);
+        Aim { check: 1 + check as usize, family: 1 + (rest % 2) as u32, tube: 1 + (rest / 2 % 2) as u32 }
+    }
+
+    pub fn fails(&self, job: &Job, sheet: &Sheet) -> bool {
+        check(self.check, job, sheet, job.field(7)).verdict() == 2
+    }
+
+    pub fn stands_at_limit(&self, job: &Job, sheet: &Sheet) -> bool {
+        let check = check(self.check, job, sheet, job.field(7));
+        check.due && check.left == check.right
+    }
+}
+
+/// An edge of the aim's check; none where forty jobs have none.
+pub fn edge(random: &mut Random, aim: Aim) -> Option<Edge> {
+    (0..40).find_map(|_| {
+        let enclosure = random.within(1, 3);
+        let job = accepted(random, aim.family, aim.tube, enclosure);
+        let sheet = sheet_for(random, &job, aim.check);
+        let field = random.pick(FIELDS[aim.check - 1]);
+        let is_gapped = field == 3 && job.is_double_row();
+        if is_gapped { None } else { bisect(&job, sheet, field, |job, sheet| aim.fails(job, sheet)) }
+    })
+}
+
+/// The edge along one field, where the verdict differs between its ends.
+pub fn bisect(job: &Job, sheet: Sheet, field: usize, fails: impl Fn(&Job, &Sheet) -> bool) -> Option<Edge> {
+    let (mut low, mut high) = bounds(job, field);
+    let fails_low = fails(&job.with(field, low), &sheet);
+    if fails_low == fails(&job.with(field, high), &sheet) {
+        return None;
+    }
+    while high - low > 1 {
+        let middle = low + (high - low) / 2;
+        if fails(&job.with(field, middle), &sheet) == fails_low {
+            low = middle;
+        } else {
+            high = middle;
+        }
+    }
+    let (passes, fails) = if fails_low { (high, low) } else { (low, high) };
+    Some(Edge { sheet, passing: job.with(field, passes), failing: job.with(field, fails), field })
+}
+
+/// The edge's two jobs and the next one on each side of them, where the field goes so far.
+pub fn around(edge: &Edge) -> [Job; 4] {
+    let (passes, fails) = (edge.passing.field(edge.field), edge.failing.field(edge.field));
+    let (low, high) = bounds(&edge.passing, edge.field);
+    let beside =
+        |value: u32, other: u32| if value > other { (value + 1).min(high) } else { value.saturating_sub(1).max(low) };
+    let (before, behind) = (beside(passes, fails), beside(fails, passes));
+    [edge.passing.with(edge.field, before), edge.passing, edge.failing, edge.failing.with(edge.field, behind)]
+}
+
+// Checks 7 and 8 need a sheet under which the job stands near what its pole bears.
+fn sheet_for(random: &mut Random, job: &Job, check: usize) -> Sheet {
+    let share = random.within(900, 1500);
+    match check {
+        7 | 8 => near_capacity(random, job, job.field(7), share).unwrap_or_else(|| Sheet(valid(random))),
+        _ => Sheet(valid(random)),
+    }
+}
+
+/// Entries by which φAf is a whole number of newtons are multiples of these.
+const WHOLE_CAPACITY: [u32; 2] = [200, 50];
+
+/// A sheet under which N at the height is about φAf; `share` is φAf in thousandths of N.
+pub fn near_capacity(random: &mut Random, job: &Job, height: u32, share: u32) -> Option<Sheet> {
+    let z = usize::try_from(column_slenderness(job)).ok().filter(|&z| z <= 250)?;
+    let plain = [489, 452][job.field(2) as usize - 1] * 205;
+    let mut entry = (pole_force(job, height) * i128::from(share) / plain) as u32;
+    if random.once_in(2) {
+        let step = WHOLE_CAPACITY[job.field(2) as usize - 1];
+        entry = entry.div_ceil(step) * step;
+    }
+    (117..=1000).contains(&entry).then(|| Sheet(through(random, z, entry)))
+}
+
+/// A job whose stability height is the given one, tuned by the nets S.
+pub fn at_stability(random: &mut Random, family: u32, height: Option<u32>) -> Option<(Job, Sheet)> {
+    (0..60).find_map(|_| {
+        let (tube, enclosure) = (random.within(1, 2), random.within(1, 3));
+        let job = accepted(random, family, tube, enclosure);
+        let share = random.within(1000, 1300);
+        let sheet = near_capacity(random, &job.with(13, 2_500), height.unwrap_or(0), share)?;
+        let fails = |job: &Job, sheet: &Sheet| !pole_checks_pass(job, sheet, height.unwrap_or(0));
+        let edge = bisect(&job, sheet, 13, fails)?;
+        let job = if height.is_some() { edge.passing } else { edge.failing };
+        (stability(&job, &edge.sheet) == height).then_some((job, edge.sheet))
+    })
+}
