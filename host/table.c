@@ -4,6 +4,7 @@
 #include <inttypes.h>
 
 #include "answers.h"
+#include "cells.h"
 #include "explain.h"
 #include "rembilung.h"
 #include "status.h"
@@ -33,58 +34,6 @@ static void finish_unreadable(Table *table, Answer *answer) {
     table->tally.unreadable++;
     answer->result = "unreadable";
     finish_row(table, answer);
-}
-
-/* 0 where the row has not as many cells as every row of the table. */
-static int width_is_right(const Table *table, Answer *answer) {
-    size_t cells = table->csv->cells, width = table->columns.width, k = 0;
-    char letters[CSV_LETTERS];
-    if (cells == width)
-        return 1;
-    answer->column = cells < width ? cells : width;
-    csv_letters(answer->column, letters);
-    while (k < REMBILUNG_NUMBERS && table->columns.of[k] != answer->column)
-        k++;
-    text_add(&answer->words, "the row has %zu cell%s and %s %zu: column %s", cells, cells == 1 ? "" : "s",
-             table->columns.headed ? "the row of names has" : "a table without a row of names has", width, letters);
-    if (cells > width)
-        text_add(&answer->words, " is the first too many");
-    else if (k < REMBILUNG_NUMBERS)
-        text_add(&answer->words, ", %s, is missing", fields[k].name);
-    else
-        text_add(&answer->words, " is missing");
-    return 0;
-}
-
-/* Says what is wrong with the cell of a number. */
-static void explain_cell(Answer *answer, NumberKind kind, const char *bytes, size_t length, const Field *field) {
-    char letters[CSV_LETTERS];
-    csv_letters(answer->column, letters);
-    text_add(&answer->words, "column %s, %s: ", letters, field->name);
-    if (length == 0) {
-        text_add(&answer->words, "the cell is empty; it may be %s", field->range);
-        return;
-    }
-    explain_number(&answer->words, kind, bytes, length, field);
-    if (kind == NUMBER_NOT_WHOLE)
-        text_add(&answer->words, "; digits alone are read, no thousands separator, decimals, sign or unit");
-}
-
-/* 0 where a cell is no number; the first such number of the job is named, and the others are counted. */
-static int read_cells(const Table *table, uint32_t *numbers, Answer *answer) {
-    int bad = 0;
-    for (int k = 0; k < REMBILUNG_NUMBERS; k++) {
-        size_t length;
-        const char *bytes = csv_trimmed(table->csv, table->columns.of[k], &length);
-        NumberKind kind = read_number(bytes, length, &numbers[k]);
-        if (kind == NUMBER_READ || bad++ > 0)
-            continue;
-        answer->column = table->columns.of[k];
-        explain_cell(answer, kind, bytes, length, &fields[k]);
-    }
-    if (bad > 1)
-        text_add(&answer->words, "; cells of the row that are no number: %d", bad);
-    return bad == 0;
 }
 
 static void finish_refused(Table *table, const uint32_t *numbers, uint64_t result, Answer *answer) {
@@ -182,7 +131,7 @@ static void judge_row(Table *table, CsvResult read) {
     begin_answer(table, read, &answer);
     if (read != CSV_ROW)
         text_add(&answer.words, "%s", csv_fault(read));
-    int whole = read == CSV_ROW && width_is_right(table, &answer) && read_cells(table, numbers, &answer);
+    int whole = read == CSV_ROW && read_cells(table->csv, &table->columns, numbers, &answer);
     if (!whole && read == CSV_ROW && has_names(table->csv)) {
         stop_at_names(table);
         return;
