@@ -10,14 +10,15 @@ fail() {
     exit 2
 }
 
-# The compiler from PATH, else from where rustup puts it.
+# The compiler from PATH, else from where rustup puts it in the user's home, which the environment need not name.
 find_rustc() {
+    home=${HOME:-$(getent passwd "$(id -u)" | cut -d: -f6)}
     if command -v rustc >/dev/null 2>&1; then
         rustc=rustc
-    elif [ -x "${HOME-}/.cargo/bin/rustc" ]; then
-        rustc=$HOME/.cargo/bin/rustc
+    elif [ -x "$home/.cargo/bin/rustc" ]; then
+        rustc=$home/.cargo/bin/rustc
     else
-        fail "rustc is missing: it is neither on PATH nor in \$HOME/.cargo/bin"
+        fail "rustc is missing: it is neither on PATH nor in .cargo/bin of the user's home"
     fi
 }
 
