@@ -1,68 +1,79 @@
-// What every layer is built on: the refusals of document 01, choices by a test, and division up.
+// What every layer is built on: the refusals of the papers, what writing answers, choices by a test, and division up.
+ghost use mathlib.Core.Bool.{_&&_, _||_, cond};
 ghost use mathlib.Core.Path.{_≡_};
 ghost use Prim.Native.Nat.{_+_, _<_, _≤_, min, max};
-ghost use Rattle.basis.specs.Choice.{pick, both, either, within};
+ghost use Rattle.basis.specs.Range.{within};
 ghost use Rattle.basis.specs.Fraction.{ceil};
 ghost use Rattle.basis.specs.Figure.{Is};
-ghost use Rattle.basis.specs.Refusal.{number, place, unless, first};
+ghost use Rattle.basis.specs.Refusal.{unless, first};
+ghost use Rattle.basis.specs.Writing.{writtenOr};
 
-// Why nothing is judged, with its place; the number of each case is in specs/Refusal.antt.
-pub enum Refusal {
-    Nothing,
-    // the sheet's length
-    SheetLength(u64),
-    // the entry
-    SheetEntry(u64),
-    // the field, from 1
-    FieldRange(u64),
-    Contradiction(u64),
-    Wall(u64),
-    // the offset of the number's first byte
-    Damaged(u64),
-    // the offset of the first extra byte
-    Trailing(u64),
-    // the length needed
-    TooShort(u64),
+// Why nothing is answered: the papers' number, 0 where nothing is refused, and the place.
+pub struct Refusal {
+    pub number: u32,
+    pub place: u64,
 }
 
-// The rest where the test passes, else the refusal.
-pub fn refuse_unless(stands: bool, refusal: Refusal, rest: Refusal) -> Refusal
-    ensures { λ r. ⌜ r ≡ unless stands refusal rest ⌝ }
-{
-    if stands { rest } else { refusal }
+pub const NOTHING: Refusal = Refusal {
+    number: 0,
+    place: 0,
+};
+
+// The numbers of document 01, then those of document 02; specs/Refusal.antt says what the place of each is.
+pub const SHEET_LENGTH: u32 = 1;
+
+pub const SHEET_ENTRY: u32 = 2;
+
+pub const FIELD_RANGE: u32 = 3;
+
+pub const CONTRADICTION: u32 = 4;
+
+pub const UNFIT_WALL: u32 = 5;
+
+pub const DAMAGED: u32 = 6;
+
+pub const TRAILING: u32 = 7;
+
+pub const TOO_SHORT: u32 = 8;
+
+pub const BOOK_DAMAGED: u32 = 9;
+
+pub const BOOK_COUNT: u32 = 10;
+
+pub const BOOK_ROW: u32 = 11;
+
+pub const DISORDER: u32 = 12;
+
+pub const CELL_WINDOW: u32 = 13;
+
+pub const CELL_RECORD: u32 = 14;
+
+pub const CELL_LENGTH: u32 = 15;
+
+pub const SEGMENT_COUNT: u32 = 16;
+
+pub const SEGMENT_REFUSED: u32 = 17;
+
+pub const SEGMENT_DISAGREES: u32 = 18;
+
+pub const TIMBER_INPUT: u32 = 19;
+
+pub const ALLOWANCE: u32 = 20;
+
+// The length of what was written, or why it is refused.
+pub enum Written {
+    Length(usize),
+    Refused(Refusal),
 }
 
-// The paper's number of a refusal, 0 where nothing is refused.
-pub fn number_of(refusal: Refusal) -> u64
-    ensures { λ r. ⌜ r ≡ number refusal ⌝ }
+// The rest where the test passes, else the refusal of that number and place.
+pub fn refuse_unless(stands: bool, number: u32, place: u64, rest: Refusal) -> Refusal
+    ensures { λ r. ⌜ r ≡ unless stands record { number = number; place = place } rest ⌝ }
 {
-    match refusal {
-        Refusal::Nothing => 0,
-        Refusal::SheetLength(_) => 1,
-        Refusal::SheetEntry(_) => 2,
-        Refusal::FieldRange(_) => 3,
-        Refusal::Contradiction(_) => 4,
-        Refusal::Wall(_) => 5,
-        Refusal::Damaged(_) => 6,
-        Refusal::Trailing(_) => 7,
-        Refusal::TooShort(_) => 8,
-    }
-}
-
-// Its place.
-pub fn place_of(refusal: Refusal) -> u64
-    ensures { λ r. ⌜ r ≡ place refusal ⌝ }
-{
-    match refusal {
-        Refusal::Nothing => 0,
-        Refusal::SheetLength(n) => n,
-        Refusal::SheetEntry(k) => k,
-        Refusal::FieldRange(field) => field,
-        Refusal::Contradiction(field) => field,
-        Refusal::Wall(field) => field,
-        Refusal::Damaged(offset) => offset,
-        Refusal::Trailing(offset) => offset,
-        Refusal::TooShort(needed) => needed,
+    if stands {
+        rest
+    } else {
+        Refusal { number, place }
     }
 }
 
@@ -70,28 +81,35 @@ pub fn place_of(refusal: Refusal) -> u64
 pub fn first_of(refusal: Refusal, rest: Refusal) -> Refusal
     ensures { λ r. ⌜ r ≡ first refusal rest ⌝ }
 {
-    if number_of(refusal) == 0 {
-        rest
+    if refusal.number == 0 { rest } else { refusal }
+}
+
+// The length where nothing is refused, else the refusal.
+pub fn written_or(refusal: Refusal, count: usize) -> Written
+    ensures { λ r. ⌜ r ≡ writtenOr refusal count ⌝ }
+{
+    if refusal.number == 0 {
+        Written::Length(count)
     } else {
-        refusal
+        Written::Refused(refusal)
     }
 }
 
 // a where the test passes, else b.
 pub fn choose(first: bool, a: u64, b: u64) -> u64
-    ensures { λ r. ⌜ Is r (pick first a b) (max a b) × (min a b ≤ r) ⌝ }
+    ensures { λ r. ⌜ Is r (cond first a b) (max a b) × (min a b ≤ r) ⌝ }
 {
     if first { a } else { b }
 }
 
 pub fn both_of(a: bool, b: bool) -> bool
-    ensures { λ r. ⌜ r ≡ both a b ⌝ }
+    ensures { λ r. ⌜ r ≡ (a && b) ⌝ }
 {
     if a { b } else { false }
 }
 
 pub fn either_of(a: bool, b: bool) -> bool
-    ensures { λ r. ⌜ r ≡ either a b ⌝ }
+    ensures { λ r. ⌜ r ≡ (a || b) ⌝ }
 {
     if a { true } else { b }
 }

@@ -1,12 +1,12 @@
 -- A job of which nothing is refused has each field in its range.
 -- Assumes nothing.
 use mathlib.Core.Path.{_≡_}
-use mathlib.Core.Bool.{Bool, true, false}
+use mathlib.Core.Bool.{Bool, true, false, _&&_, cond}
 use Prim.Native.Nat.{ℕ, _≤_, _<_}
 use native.Mathlib.Nat.{le-trans}
 use native.Mathlib.Omega.{arith}
 use lib.Dec.{T, eqb, eqb→eq, leb, ltb, ltb→lt, lit<, lit≤}
-use Rattle.basis.specs.Choice.{pick, both, within}
+use Rattle.basis.specs.Range.{within}
 use Rattle.basis.proofs.Tests.{either-elim, within-le}
 use Rattle.basis.proofs.Refusals.{unless-pass}
 use Rattle.job.specs.declared.Job.{Job}
@@ -20,17 +20,17 @@ unfolding field
 passes place true rest t e = (tt, e)
 passes place false rest t e = let l : 0 < place = ltb→lt 0 place t in absurd (omega arith)
 
-pick-elim : {A : Type 0} (b c d : Bool) → (T c → A) → (T d → A) → T (pick b c d) → A
-pick-elim true c d f g t = f t
-pick-elim false c d f g t = g t
+cond-elim : {A : Type 0} (b c d : Bool) → (T c → A) → (T d → A) → T (cond b c d) → A
+cond-elim true c d f g t = f t
+cond-elim false c d f g t = g t
 
 wider : (lo hi lo′ hi′ x : ℕ) → T (leb lo′ lo) → T (leb hi hi′) → T (within lo hi x) → (lo′ ≤ x) × (x ≤ hi′)
 wider lo hi lo′ hi′ x s t w = let h = within-le lo hi x w in (le-trans (lit≤ s) (h .0), le-trans (h .1) (lit≤ t))
 
 lb-within : (family lb : ℕ) → T (lbStands family lb) → (60 ≤ lb) × (lb ≤ 155)
-unfolding lbStands both
+unfolding lbStands
 lb-within family lb =
-    pick-elim (eqb family 1) _ _
+    cond-elim (eqb family 1) _ _
     (either-elim (eqb lb 105) _ (one 105 tt) (either-elim (eqb lb 130) _ (one 130 tt) (one 155 tt)))
     (wider 60 150 60 155 lb tt tt)
   where
@@ -39,13 +39,13 @@ lb-within family lb =
 
 height-within : (family height : ℕ) → T (heightStands family height) → (1 ≤ height) × (height ≤ 5000)
 unfolding heightStands
-height-within family height = pick-elim (eqb family 1) _ _ (within-le 1 5000 height) (wider 1 2400 1 5000 height tt tt)
+height-within family height = cond-elim (eqb family 1) _ _ (within-le 1 5000 height) (wider 1 2400 1 5000 height tt tt)
 
 shield-within : (enclosure shield : ℕ) → T (shieldStands enclosure shield) → (1 ≤ shield) × (shield ≤ 2000)
 unfolding shieldStands
 shield-within enclosure shield =
-    pick-elim (eqb enclosure 1) _ _ (within-le 1 2000 shield)
-    (pick-elim (eqb enclosure 2) _ _ (wider 300 700 1 2000 shield tt tt) (wider 1 1000 1 2000 shield tt tt))
+    cond-elim (eqb enclosure 1) _ _ (within-le 1 2000 shield)
+    (cond-elim (eqb enclosure 2) _ _ (wider 300 700 1 2000 shield tt tt) (wider 1 1000 1 2000 shield tt tt))
 
 none-outside : (j : Job) → Stands j → outside j ≡ 0
 unfolding Stands examination
@@ -90,7 +90,7 @@ bounds j h =
       boards = within-le 1 3 (j .boards) (f8 .0) .1;
       boarded = within-le 1 10 (j .boarded) (f9 .0) .1;
       working = within-le 1 9 (j .working) (f10 .0) .1;
-      live = within-le 0 10000 (j .live) (f11 .0) .1;
+      q = within-le 0 10000 (j .q) (f11 .0) .1;
       total = within-le 0 30000 (j .total) (f12 .0) .1;
       nets = within-le 0 5000 (j .nets) (f13 .0) .1;
       weight = within-le 50 500 (j .weight) (f14 .0) .1;

@@ -14,7 +14,7 @@ pub record Bounds (j : Job) : Type 0 where
   pub boards : j .boards ≤ 3
   pub boarded : j .boarded ≤ 10
   pub working : j .working ≤ 9
-  pub live : j .live ≤ 10000
+  pub q : j .q ≤ 10000
   pub total : j .total ≤ 30000
   pub nets : j .nets ≤ 5000
   pub weight : j .weight ≤ 500

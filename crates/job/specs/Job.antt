@@ -18,7 +18,7 @@ jobOf n =
       boards = getD n 7 0;
       boarded = getD n 8 0;
       working = getD n 9 0;
-      live = getD n 10 0;
+      q = getD n 10 0;
       total = getD n 11 0;
       nets = getD n 12 0;
       weight = getD n 13 0;
@@ -37,5 +37,5 @@ jobOf n =
 
 unfoldable pub numbers : Job → List ℕ
 numbers j =
-    j .family ∷ j .tube ∷ j .lb ∷ j .la ∷ j .step ∷ j .ties ∷ j .height ∷ j .boards ∷ j .boarded ∷ j .working ∷ j .live ∷ j .total ∷ j .nets
+    j .family ∷ j .tube ∷ j .lb ∷ j .la ∷ j .step ∷ j .ties ∷ j .height ∷ j .boards ∷ j .boarded ∷ j .working ∷ j .q ∷ j .total ∷ j .nets
     ∷ j .weight ∷ j .wind ∷ j .exposure ∷ j .enclosure ∷ j .shield ∷ j .wall ∷ j .thickness ∷ j .make ∷ j .capacity ∷ j .soil ∷ j .strength ∷ j .pad ∷ []

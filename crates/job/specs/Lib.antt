@@ -2,3 +2,4 @@ pub mod Job
 pub mod Ranges
 pub mod Examine
 pub mod Bounds
+pub mod JobJ

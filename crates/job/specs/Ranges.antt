@@ -1,9 +1,9 @@
 -- Document 01, "The job": each field with its range, in its order.
 -- Assumes nothing.
 use Prim.Native.Nat.{ℕ}
-use mathlib.Core.Bool.{Bool, true, false}
+use mathlib.Core.Bool.{Bool, true, false, _||_, cond}
 use lib.Dec.{eqb}
-use Rattle.basis.specs.Choice.{pick, either, within}
+use Rattle.basis.specs.Range.{within}
 use Rattle.job.specs.declared.Job.{Job}
 
 -- the rest where the field stands, else its place
@@ -13,16 +13,16 @@ field place false rest = place
 
 -- 3: 105, 130 or 155 (double); 60 to 150 (single)
 unfoldable pub lbStands : ℕ → ℕ → Bool
-lbStands family lb = pick (eqb family 1) (either (eqb lb 105) (either (eqb lb 130) (eqb lb 155))) (within 60 150 lb)
+lbStands family lb = cond (eqb family 1) (eqb lb 105 || (eqb lb 130 || eqb lb 155)) (within 60 150 lb)
 
 -- 7: 1 to 5,000 (double), 1 to 2,400 (single)
 unfoldable pub heightStands : ℕ → ℕ → Bool
-heightStands family height = pick (eqb family 1) (within 1 5000 height) (within 1 2400 height)
+heightStands family height = cond (eqb family 1) (within 1 5000 height) (within 1 2400 height)
 
 -- 18: open 1 to 2,000; half closed 300 to 700; fully closed 1 to 1,000
 unfoldable pub shieldStands : ℕ → ℕ → Bool
 shieldStands enclosure shield =
-    pick (eqb enclosure 1) (within 1 2000 shield) (pick (eqb enclosure 2) (within 300 700 shield) (within 1 1000 shield))
+    cond (eqb enclosure 1) (within 1 2000 shield) (cond (eqb enclosure 2) (within 300 700 shield) (within 1 1000 shield))
 
 -- 1 to 7
 unfoldable pub geometry : Job → ℕ → ℕ
@@ -41,7 +41,7 @@ loads j rest =
     field 8 (within 1 3 (j .boards))
     (field 9 (within 1 10 (j .boarded))
     (field 10 (within 1 9 (j .working))
-    (field 11 (within 0 10000 (j .live))
+    (field 11 (within 0 10000 (j .q))
     (field 12 (within 0 30000 (j .total))
     (field 13 (within 0 5000 (j .nets))
     (field 14 (within 50 500 (j .weight)) rest))))))

@@ -1,10 +1,14 @@
 // A scaffold job: its 25 numbers by name, and what about them is refused (refusals 3, 4 and 5).
 ghost use mathlib.Core.Path.{_≡_};
-ghost use Rattle.basis.specs.Choice.{within};
+ghost use Rattle.basis.specs.Range.{within};
 ghost use Rattle.job.specs.Ranges.{field, lbStands, heightStands, shieldStands, geometry, loads, wind, ground, outside};
 ghost use Rattle.job.specs.Job.{jobOf, numbers};
 ghost use Rattle.job.specs.Examine.{examination};
+use basis::CONTRADICTION;
+use basis::FIELD_RANGE;
+use basis::NOTHING;
 use basis::Refusal;
+use basis::UNFIT_WALL;
 use basis::either_of;
 use basis::refuse_unless;
 use basis::within_of;
@@ -32,7 +36,7 @@ pub struct Job {
     // working layers
     pub working: u32,
     // greatest live load on one layer, q, N/m²
-    pub live: u32,
+    pub q: u32,
     // live load summed over layers, Q, N/m²
     pub total: u32,
     // nets per pole S, N
@@ -78,7 +82,7 @@ pub fn from_numbers(n: [u32; 25]) -> Job
         boards: n[7],
         boarded: n[8],
         working: n[9],
-        live: n[10],
+        q: n[10],
         total: n[11],
         nets: n[12],
         weight: n[13],
@@ -111,7 +115,7 @@ pub fn to_numbers(j: Job) -> [u32; 25]
         j.boards,
         j.boarded,
         j.working,
-        j.live,
+        j.q,
         j.total,
         j.nets,
         j.weight,
@@ -197,7 +201,7 @@ fn loads_of(j: Job, rest: u64) -> u64
     let p14 = range_of(14, 50, 500, j.weight, rest);
     let p13 = range_of(13, 0, 5000, j.nets, p14);
     let p12 = range_of(12, 0, 30000, j.total, p13);
-    let p11 = range_of(11, 0, 10000, j.live, p12);
+    let p11 = range_of(11, 0, 10000, j.q, p12);
     let p10 = range_of(10, 1, 9, j.working, p11);
     let p9 = range_of(9, 1, 10, j.boarded, p10);
     range_of(8, 1, 3, j.boards, p9)
@@ -239,9 +243,9 @@ pub fn examine(j: Job) -> Refusal
     let field = outside_of(j);
     let thick = either_of(family == 1, 180 < j.thickness);
     let sound = either_of(family == 1, j.make == 1);
-    let make = refuse_unless(sound, Refusal::Wall(21), Refusal::Nothing);
-    let thickness = refuse_unless(thick, Refusal::Wall(20), make);
-    let live = refuse_unless(j.live <= j.total, Refusal::Contradiction(12), thickness);
-    let working = refuse_unless(j.working <= j.boarded, Refusal::Contradiction(10), live);
-    refuse_unless(field == 0, Refusal::FieldRange(field), working)
+    let make = refuse_unless(sound, UNFIT_WALL, 21, NOTHING);
+    let thickness = refuse_unless(thick, UNFIT_WALL, 20, make);
+    let total = refuse_unless(j.q <= j.total, CONTRADICTION, 12, thickness);
+    let working = refuse_unless(j.working <= j.boarded, CONTRADICTION, 10, total);
+    refuse_unless(field == 0, FIELD_RANGE, field, working)
 }

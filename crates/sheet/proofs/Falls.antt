@@ -1,7 +1,7 @@
 -- A sheet of which nothing is refused has 251 entries that fall, from at most 1,000 to at least 117; its stability factor weakens with the slenderness.
 -- Assumes nothing.
 use mathlib.Core.Path.{_≡_, refl}
-use mathlib.Core.Bool.{Bool, true, false, not}
+use mathlib.Core.Bool.{Bool, true, false, not, _&&_, _||_, cond}
 use mathlib.Core.List.{List}
 use Prim.Native.Nat.{ℕ, zero, suc, _+_, _*_, _-_, _≤_, _<_}
 use native.Mathlib.Nat.{add-zero, add-suc, le-refl, le-trans, mul-le-mul, mul-le-mul-left, mul-le-mul-right, add-sub-of-le}
@@ -9,13 +9,13 @@ use native.Mathlib.Omega.{arith}
 use lib.ListN.{length, getD}
 use lib.Dec.{T, leb, eqb, leb→le, eqb→eq, lit<, lit≤}
 use borrow.Author.Tests.{leb-true, leb-false}
-use Rattle.basis.specs.Choice.{pick, both, either, within}
+use Rattle.basis.specs.Range.{within}
 use Rattle.basis.proofs.Order.{mono}
 use Rattle.basis.proofs.Tests.{cases, both-left, both-right, either-elim, within-le}
 use Rattle.basis.proofs.Searches.{firstFail-none}
 use Rattle.basis.proofs.Refusals.{unless-pass}
 use Rattle.sheet.specs.Sheet.{entryStands, fault, examination, Stands}
-use Rattle.sheet.specs.Factor.{over, under}
+use Rattle.sheet.specs.StabilityFactor.{over, under}
 
 -- where none of the entries up to m is greater than the one before it, a later one is no greater
 pub falls-from : (s : List ℕ) (m : ℕ) → ((k : ℕ) → suc k ≤ m → getD s (suc k) 0 ≤ getD s k 0) → {i k : ℕ} → i ≤ k → k ≤ m → getD s k 0 ≤ getD s i 0
@@ -49,12 +49,11 @@ module _ (s : List ℕ) (h : Stands s) where
   pub entry-most : (k : ℕ) → k ≤ 250 → getD s k 0 ≤ 1000
   entry-most k l = entry-within k l .1
 
-  entry-falling : (k : ℕ) → k ≤ 250 → T (both (either (eqb k 0) (leb (getD s k 0) (getD s (k - 1) 0))) (either (not (eqb k 250)) (leb 117 (getD s k 0))))
+  entry-falling : (k : ℕ) → k ≤ 250 → T ((eqb k 0 || leb (getD s k 0) (getD s (k - 1) 0)) && (not (eqb k 250) || leb 117 (getD s k 0)))
   unfolding entryStands
   entry-falling k l = both-right (within 1 1000 (getD s k 0)) _ (entry-stands k l)
 
   pub entry-last : 117 ≤ getD s 250 0
-  unfolding either
   entry-last = leb→le 117 (getD s 250 0) (both-right (leb (getD s 250 0) (getD s 249 0)) _ (entry-falling 250 (lit≤ tt)))
 
   entry-next : (k : ℕ) → suc k ≤ 250 → getD s (suc k) 0 ≤ getD s k 0
@@ -63,7 +62,7 @@ module _ (s : List ℕ) (h : Stands s) where
       either-elim (eqb (suc k) 0) (leb (getD s (suc k) 0) (getD s (suc k - 1) 0))
       (λ t. let z = eqb→eq (suc k) 0 t in absurd (omega arith))
       (λ t. rw e at (leb→le (getD s (suc k) 0) (getD s (suc k - 1) 0) t))
-      (both-left _ (either (not (eqb (suc k) 250)) (leb 117 (getD s (suc k) 0))) (entry-falling (suc k) l))
+      (both-left (eqb (suc k) 0 || leb (getD s (suc k) 0) (getD s (suc k - 1) 0)) (not (eqb (suc k) 250) || leb 117 (getD s (suc k) 0)) (entry-falling (suc k) l))
 
   pub entry-falls : {i k : ℕ} → i ≤ k → k ≤ 250 → getD s k 0 ≤ getD s i 0
   entry-falls = falls-from s 250 entry-next
@@ -86,7 +85,7 @@ pub weakens : (s : List ℕ) → Stands s → {z z′ : ℕ} → z ≤ z′ → 
 unfolding over under
 weakens s h {z} {z′} l = go (leb z 250) (leb z′ 250) refl refl
   where
-    go : (p q : Bool) → leb z 250 ≡ p → leb z′ 250 ≡ q → Weaker (pick p (getD s z 0) 7320) (pick p 1000 (z * z)) (pick q (getD s z′ 0) 7320) (pick q 1000 (z′ * z′))
+    go : (p q : Bool) → leb z 250 ≡ p → leb z′ 250 ≡ q → Weaker (cond p (getD s z 0) 7320) (cond p 1000 (z * z)) (cond q (getD s z′ 0) 7320) (cond q 1000 (z′ * z′))
     go true true p q =
         let v = leb-true z′ 250 q in
         record { falls = mul-le-mul-right 1000 (entry-falls s h l v); over = entry-pos s h z′ v; under = lit< tt }

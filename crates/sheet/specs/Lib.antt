@@ -1,3 +1,5 @@
 pub mod Sheet
-pub mod Factor
+pub mod Pass
+pub mod StabilityFactor
 pub mod Bytes
+pub mod SheetT

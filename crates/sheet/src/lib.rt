@@ -3,10 +3,14 @@ ghost use mathlib.Core.Path.{_≡_};
 ghost use Prim.Native.Nat.{_≤_};
 ghost use lib.ListN.{length};
 ghost use Rattle.basis.specs.Search.{firstFail};
-ghost use Rattle.sheet.specs.Sheet.{stands, entryStands, falling, sound, examination, Stands};
-ghost use Rattle.sheet.specs.Factor.{Reading};
+ghost use Rattle.sheet.specs.Sheet.{stands, entryStands, examination, Stands};
+ghost use Rattle.sheet.specs.Pass.{falling, sound};
+ghost use Rattle.sheet.specs.StabilityFactor.{Reading};
 ghost use Rattle.sheet.specs.Bytes.{entry, entries};
+use basis::NOTHING;
 use basis::Refusal;
+use basis::SHEET_ENTRY;
+use basis::SHEET_LENGTH;
 use basis::both_of;
 use basis::either_of;
 use basis::refuse_unless;
@@ -101,36 +105,39 @@ pub fn examine(sheet: &[u16]) -> Refusal
 {
     let n = sheet.len();
     if n != 251 {
-        return Refusal::SheetLength(n as u64);
+        return Refusal {
+            number: SHEET_LENGTH,
+            place: n as u64,
+        };
     }
     if is_sound(sheet) {
-        return Refusal::Nothing;
+        return NOTHING;
     }
     let k = first_fault(sheet);
-    refuse_unless(k == 251, Refusal::SheetEntry(k as u64), Refusal::Nothing)
+    refuse_unless(k == 251, SHEET_ENTRY, k as u64, NOTHING)
 }
 
 // A stability factor, over / under.
-pub struct Factor {
+pub struct StabilityFactor {
     pub over: u64,
     pub under: u64,
 }
 
 // The stability factor of a sheet at the slenderness z.
 // requires: judge shows that the sheet stands and that no accepted job is more slender.
-pub fn stability_factor(sheet: &[u16], z: u64) -> Factor
+pub fn stability_factor(sheet: &[u16], z: u64) -> StabilityFactor
     requires { ⌜ Stands (now sheet) × (z ≤ 293) ⌝ }
     ensures { λ r. ⌜ Reading r (now (sheet .entry)) z ⌝ }
 {
     if z <= 250 {
         let at = z as usize;
         let e = wide(sheet[at]);
-        return Factor {
+        return StabilityFactor {
             over: e as u64,
             under: 1000,
         };
     }
-    Factor {
+    StabilityFactor {
         over: 7320,
         under: z * z,
     }

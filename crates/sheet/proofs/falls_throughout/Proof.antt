@@ -1,6 +1,6 @@
 -- `falls_throughout` meets its contract: the invariant is that the entries up to the place fall as far as is said. Assumes nothing.
 use mathlib.Core.Path.{_≡_, refl, ap, _∙_}
-use mathlib.Core.Bool.{Bool}
+use mathlib.Core.Bool.{Bool, _&&_}
 use mathlib.Core.List.{List}
 use Prim.Native.Nat.{ℕ, _+_, _-_, _≤_}
 use native.Mathlib.Numerals.{add-one}
@@ -8,8 +8,7 @@ use native.Mathlib.Omega.{arith}
 use lib.Dec.{leb, lit≤}
 use lib.ListN.{getD}
 use borrow.Author.Needs.{needs}
-use Rattle.basis.specs.Choice.{both}
-use Rattle.sheet.specs.Sheet.{falling}
+use Rattle.sheet.specs.Pass.{falling}
 use Rattle.sheet.proofs.falls_throughout.Statement.{statement}
 use Rattle.sheet.proofs.falls_throughout.Tie as tie
 
@@ -20,7 +19,7 @@ abbrev μ-loop : tie.MeasureT-loop
 μ-loop sheet so-far₀ k₀ so-far k = 250 - k
 
 -- one entry more
-step : (s : List ℕ) (k : ℕ) {b c : Bool} {e d : ℕ} → c ≡ falling s k → e ≡ getD s (k + 1) 0 → d ≡ getD s k 0 → b ≡ both c (leb e d) → b ≡ falling s (k + 1)
+step : (s : List ℕ) (k : ℕ) {b c : Bool} {e d : ℕ} → c ≡ falling s k → e ≡ getD s (k + 1) 0 → d ≡ getD s k 0 → b ≡ (c && leb e d) → b ≡ falling s (k + 1)
 unfolding falling
 step s k f g h i = rw add-one (i ∙ rw (f, g, h, add-one))
 

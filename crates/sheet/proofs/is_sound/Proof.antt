@@ -1,6 +1,6 @@
 -- `is_sound` meets its contract. Assumes nothing.
 use borrow.Author.Needs.{needs}
-use Rattle.sheet.specs.Sheet.{sound}
+use Rattle.sheet.specs.Pass.{sound}
 use Rattle.sheet.proofs.is_sound.Statement.{statement}
 use Rattle.sheet.proofs.is_sound.Tie as tie
 

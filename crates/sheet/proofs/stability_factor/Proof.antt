@@ -2,7 +2,7 @@
 use mathlib.Core.Path.{_≡_}
 use mathlib.Core.List.{List}
 use Prim.Native.Nat.{ℕ, _*_, _≤_, _<_}
-use native.Mathlib.Nat.{le-refl, le-trans, mul-le-mul}
+use native.Mathlib.Nat.{le-trans, mul-le-mul}
 use native.Mathlib.Omega.{arith}
 use lib.Dec.{lit<, lit≤}
 use lib.ListN.{getD}
@@ -10,7 +10,7 @@ use borrow.Author.Needs.{needs}
 use borrow.Author.Tests.{le-leb, lt-leb}
 use Rattle.basis.proofs.Fits.{fits-below}
 use Rattle.sheet.specs.Sheet.{Stands}
-use Rattle.sheet.specs.Factor.{over, under, Reading}
+use Rattle.sheet.specs.StabilityFactor.{over, under, Reading}
 use Rattle.sheet.proofs.Falls.{sheet-long, entry-pos, entry-most}
 use Rattle.sheet.proofs.stability_factor.Statement.{statement}
 use Rattle.sheet.proofs.stability_factor.Tie as tie
@@ -21,10 +21,9 @@ from-entry s {z} h l f =
     record {
       over-is = simp (le-leb z 250 l) f;
       over-pos = rw f (entry-pos s h z l);
-      over-most = rw f (le-trans (entry-most s h z l) (lit≤ tt));
       under-is = simp (le-leb z 250 l);
-      under-pos = lit< tt;
       under-most = lit≤ tt;
+      at-most-one = rw f (entry-most s h z l);
     }
 
 above-250 : (s : List ℕ) {z : ℕ} → 250 < z → z ≤ 293 → Reading (record { over = 7320; under = z * z }) s z
@@ -33,10 +32,9 @@ above-250 s {z} l m =
     record {
       over-is = simp (lt-leb z 250 l);
       over-pos = lit< tt;
-      over-most = le-refl 7320;
       under-is = simp (lt-leb z 250 l);
-      under-pos = le-trans {m = 251 * 251} (lit≤ tt) (mul-le-mul l l);
-      under-most = mul-le-mul m m;
+      under-most = le-trans (mul-le-mul m m) (lit≤ tt);
+      at-most-one = le-trans {m = 251 * 251} (lit≤ tt) (mul-le-mul l l);
     }
 
 pub stability-factor-spec : {M : Type 1} → statement M

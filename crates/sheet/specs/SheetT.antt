@@ -1,0 +1,13 @@
+-- Sheet T of document 01, for tests only: entry k is 1000 − 4k, but at least 150.
+-- Assumes nothing.
+use Prim.Native.Nat.{ℕ, zero, suc, _*_, _-_, max}
+use mathlib.Core.List.{List, [], _∷_}
+
+-- f at each number below n, before l
+unfoldable pub below : (ℕ → ℕ) → ℕ → List ℕ → List ℕ
+below f zero l = l
+below f (suc n) l = below f n (f n ∷ l)
+
+unfoldable pub sheetT : List ℕ
+unfolding below
+sheetT = below (λ k. max (1000 - 4 * k) 150) 251 []
