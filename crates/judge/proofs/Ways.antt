@@ -7,23 +7,20 @@ use Prim.Native.Nat.{ℕ}
 use borrow.Author.Tests.{eq-eqb, ne-eqb}
 use Rattle.basis.specs.Refusal.{number}
 use Rattle.basis.specs.declared.Refusal.{Refusal}
-use Rattle.basis.proofs.Refusals.{nothing, first-nothing}
+use Rattle.basis.proofs.Refusals.{first-nothing}
 use Rattle.job.specs.declared.Job.{Job}
 use Rattle.job.specs.Examine as Job
 use Rattle.sheet.specs.Sheet as Sheet
-use Rattle.section5.specs.declared.heights.Height.{Height}
-use Rattle.judge.specs.declared.Judgement.{Judgement}
-use Rattle.section5.specs.declared.poles.Pole.{Pole}
-use Rattle.judge.specs.Answer.{refusal, Accepted, judgement, blank, answer}
-use Rattle.section5.specs.Whole as W
-use Rattle.judge.specs.Whole as A
-use Rattle.section5.proofs.Same.{wk-same, Mw-same, Z-same, verdicts-same, figures-same, permitted-same, stability-same}
+use Rattle.section5.specs.declared.Heights.{Heights}
+use Rattle.section5.specs.declared.Judgement.{Judgement}
+use Rattle.section5.specs.Section5.{judgement}
+use Rattle.calculation.specs.declared.loads.Load.{Load}
+use Rattle.calculation.specs.declared.columns.Column.{Column}
+use Rattle.calculation.specs.Whole as W
+use Rattle.calculation.proofs.Same.{judgement-same}
+use Rattle.judge.specs.Answer.{refusal, Accepted, blank, answer}
 
 module _ (s : List ℕ) (j : Job) where
-  pub judgement-same : judgement s j ≡ A.judgement (W.poleOf s j) j
-  unfolding judgement A.judgement
-  judgement-same = rw (verdicts-same j s, figures-same j s, stability-same j s, permitted-same j, wk-same j, Mw-same j, Z-same j)
-
   pub sheet-stands : Accepted s j → Sheet.Stands s
   unfolding Accepted refusal Sheet.Stands
   sheet-stands a = first-nothing (Sheet.examination s) (Job.examination j) a .0
@@ -32,27 +29,32 @@ module _ (s : List ℕ) (j : Job) where
   unfolding Accepted refusal Job.Stands
   job-stands a = first-nothing (Sheet.examination s) (Job.examination j) a .1
 
-  pub judged : Accepted s j → (answer s j) .judgement ≡ judgement s j
+  pub accepted-judgement : Accepted s j → (answer s j) .judgement ≡ judgement j s
   unfolding Accepted answer
-  judged a = simp (eq-eqb (number (refusal s j)) 0 (ap number a))
+  accepted-judgement a = simp (eq-eqb (number (refusal s j)) 0 a)
 
   module _ {r : Refusal} (e : r ≡ refusal s j) where
     pub refuse : {b : Judgement} → (number r ≡ 0 → ⊥) → b ≡ blank → record { refusal = r; judgement = b } ≡ answer s j
     unfolding answer
     refuse h g = simp (← e, ne-eqb (number r) 0 h, g)
 
-    pub accept : {b : Judgement} → number r ≡ 0 → b ≡ judgement s j → record { refusal = r; judgement = b } ≡ answer s j
+    pub accept : {b : Judgement} → number r ≡ 0 → b ≡ judgement j s → record { refusal = r; judgement = b } ≡ answer s j
     unfolding answer
     accept h g = simp (← e, eq-eqb (number r) 0 h, g)
 
     accepted : number r ≡ 0 → Accepted s j
     unfolding Accepted
-    accepted h = sym e ∙ nothing r h
+    accepted h = sym (ap number e) ∙ h
 
     pub ready : number r ≡ 0 → Sheet.Stands s × Job.Stands j
     ready h = (sheet-stands (accepted h), job-stands (accepted h))
 
   -- the parts of a judgement, as the code works them out
-  pub assembled : {p : Pole} {v f : List ℕ} {h k : Height} {n w m z : ℕ} {notDue : Bool} → p ≡ W.poleOf s j → notDue ≡ W.notDue j → n ≡ W.heightCount p notDue → v ≡ W.verdicts p j → f ≡ W.figures p j → h ≡ W.fromCount n → k ≡ W.permittedOf (j .family) (W.fromCount n) → w ≡ W.wk j → m ≡ W.mw j → z ≡ W.columnSlenderness j → record { verdicts = v; figures = f; stability = h; permitted = k; wk = w; mw = m; z = z } ≡ A.judgement (W.poleOf s j) j
-  unfolding A.judgement
-  assembled e q c v f h k w m z = cc
+  pub assembled : {form w m z n nw count : ℕ} {c : Column} {deck load : Load} {v f : List ℕ} {h : Heights} {exempt : Bool}
+      → form ≡ W.shape (j .enclosure) (j .wall) (j .shield) → w ≡ W.windPressure (j .exposure) form (j .wind) → m ≡ W.windMoment w (j .la) (j .step)
+      → z ≡ W.columnSlenderness j → c ≡ W.columnAt s (j .tube) z → exempt ≡ W.notDue j → deck ≡ W.deckLoad j → load ≡ W.raised deck (j .weight) (j .height)
+      → n ≡ W.force load → nw ≡ W.forceWind load → count ≡ W.heightCount c deck (j .weight) m exempt
+      → v ≡ W.verdicts c j w m n nw exempt → f ≡ W.figures j w n nw → h ≡ W.heights (j .family) count
+      → record { verdicts = v; figures = f; heights = h; wk = w; mw = m; z = z } ≡ judgement j s
+  unfolding W.judgement W.wk W.mw W.columnOf W.load W.count
+  assembled eform ew em ez ec ex ed el en enw eo ev ef eh = cc (judgement-same j s)

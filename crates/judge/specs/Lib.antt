@@ -1,4 +1,3 @@
 pub mod Answer
-pub mod Whole
 pub mod Demand3
 pub mod Marked

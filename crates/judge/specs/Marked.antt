@@ -4,16 +4,16 @@ use Prim.Native.Nat.{ℕ}
 use mathlib.Core.Path.{refl}
 use mathlib.Core.List.{List, [], _∷_}
 use lib.ListN.{set}
-use Rattle.basis.specs.Choice.{both, either}
 use Rattle.basis.specs.Search.{firstFail}
-use Rattle.basis.specs.Refusal.{number, place, first}
+use Rattle.basis.specs.Refusal.{number, place, unless, first}
 use Rattle.basis.specs.Marked.{Row, row, Hold}
 use Rattle.job.specs.declared.Job.{Job}
 use Rattle.job.specs.Job.{jobOf}
 use Rattle.job.specs.Ranges.{field, lbStands, heightStands, shieldStands, geometry, loads, wind, ground, outside}
 use Rattle.job.specs.Examine as Job
 use Rattle.sheet.specs.Sheet as Sheet
-use Rattle.section5.specs.Marked.{sheetT, numbersJ, jobJ}
+use Rattle.job.specs.JobJ.{numbersJ, jobJ}
+use Rattle.sheet.specs.SheetT.{sheetT}
 use Rattle.judge.specs.Answer.{refusal, answer}
 
 -- a single row of 24 m before a wall of this thickness
@@ -40,7 +40,7 @@ rows =
 
 -- on an `unfolding` line: all that examining a sheet and a job computes
 unfoldable pub examined : Unit {0}
-unfolding sheetT both either firstFail first field lbStands heightStands shieldStands geometry loads wind ground outside Job.examination Sheet.stands Sheet.entryStands Sheet.fault Sheet.examination refusal
+unfolding sheetT firstFail unless first field lbStands heightStands shieldStands geometry loads wind ground outside Job.examination Sheet.stands Sheet.entryStands Sheet.fault Sheet.examination refusal
 examined = tt
 
 pub marked : Hold rows

@@ -3,37 +3,28 @@ ghost use mathlib.Core.Path.{_≡_};
 ghost use Rattle.job.specs.Bounds.{Bounds};
 ghost use Rattle.job.specs.Examine.{Stands as JobStands};
 ghost use Rattle.sheet.specs.Sheet.{Stands};
-ghost use Rattle.section5.specs.Whole.{poleOf};
-ghost use Rattle.judge.specs.Answer.{answer, blank, judgement as judged};
-ghost use Rattle.judge.specs.Whole.{judgement};
+ghost use Rattle.section5.specs.Section5.{judgement};
+ghost use Rattle.judge.specs.Answer.{answer, blank};
 use basis::Refusal;
 use basis::first_of;
-use basis::number_of;
+use calculation::checks::not_due_of;
+use calculation::checks::verdicts_of;
+use calculation::columns::column_of;
+use calculation::figures::column_slenderness;
+use calculation::figures::figures_of;
+use calculation::figures::shape_of;
+use calculation::figures::wind_moment;
+use calculation::figures::wind_pressure;
+use calculation::heights::height_count;
+use calculation::heights::heights_of;
+use calculation::loads::deck_load;
+use calculation::loads::force_of;
+use calculation::loads::force_wind_of;
+use calculation::loads::raised_by;
 use job::Job;
-use section5::checks::not_due_of;
-use section5::checks::verdicts_of;
-use section5::figures::column_slenderness;
-use section5::figures::figures_of;
-use section5::figures::wind_moment;
-use section5::figures::wind_pressure;
-use section5::heights::Height;
-use section5::heights::height_of;
-use section5::heights::permitted_of;
-use section5::poles::force_of;
-use section5::poles::force_wind_of;
-use section5::poles::height_count;
-use section5::poles::pole_of;
-
-// What a job that is accepted is told: each place of a row is fixed by its check.
-pub struct Judgement {
-    pub verdicts: [u8; 11],
-    pub figures: [u64; 11],
-    pub stability: Height,
-    pub permitted: Height,
-    pub wk: u64,
-    pub mw: u64,
-    pub z: u64,
-}
+use section5::CHECKS;
+use section5::Heights;
+use section5::Judgement;
 
 // The refusal, or nothing refused and the judgement beside it.
 pub struct Judged {
@@ -43,40 +34,26 @@ pub struct Judged {
 
 fn judgement_of(sheet: &[u16], j: Job) -> Judgement
     requires { ⌜ Stands (now sheet) × Bounds j ⌝ }
-    ensures { λ r. ⌜ r ≡ judgement (poleOf (now (sheet .entry)) j) j ⌝ }
+    ensures { λ r. ⌜ r ≡ judgement j (now (sheet .entry)) ⌝ }
 {
-    let height = j.height as u64;
-    let w = wind_pressure(j);
-    let m = wind_moment(j, w);
+    let shape = shape_of(j.enclosure, j.wall, j.shield);
+    let w = wind_pressure(j.exposure, shape, j.wind);
+    let m = wind_moment(w, j.la, j.step);
     let z = column_slenderness(j);
+    let c = column_of(sheet, j.tube, z);
     let exempt = not_due_of(j);
-    let p = pole_of(sheet, j, z, m);
-    let n = force_of(p, height);
-    let nw = force_wind_of(p, height);
-    let count = height_count(p, exempt);
+    let deck = deck_load(j);
+    let load = raised_by(deck, j.weight, j.height);
+    let n = force_of(load);
+    let nw = force_wind_of(load);
+    let count = height_count(c, deck, j.weight, m, exempt);
     Judgement {
-        verdicts: verdicts_of(p, j, w, n, nw, exempt),
-        figures: figures_of(p, j, w, n, nw),
-        stability: height_of(count),
-        permitted: permitted_of(j.family, count),
+        verdicts: verdicts_of(c, j, w, m, n, nw, exempt),
+        figures: figures_of(j, w, n, nw),
+        heights: heights_of(j.family, count),
         wk: w,
         mw: m,
         z,
-    }
-}
-
-// What stands beside a refusal.
-fn blank_of() -> Judgement
-    ensures { λ r. ⌜ r ≡ blank ⌝ }
-{
-    Judgement {
-        verdicts: [0; 11],
-        figures: [0; 11],
-        stability: Height::None,
-        permitted: Height::None,
-        wk: 0,
-        mw: 0,
-        z: 0,
     }
 }
 
@@ -84,9 +61,23 @@ fn blank_of() -> Judgement
 // requires: a caller has examined both; judge does so itself.
 pub fn judge_accepted(sheet: &[u16], j: Job) -> Judgement
     requires { ⌜ Stands (now sheet) × JobStands j ⌝ }
-    ensures { λ r. ⌜ r ≡ judged (now (sheet .entry)) j ⌝ }
+    ensures { λ r. ⌜ r ≡ judgement j (now (sheet .entry)) ⌝ }
 {
     judgement_of(sheet, j)
+}
+
+// What stands beside a refusal.
+fn blank_of() -> Judgement
+    ensures { λ r. ⌜ r ≡ blank ⌝ }
+{
+    Judgement {
+        verdicts: [0; CHECKS],
+        figures: [0; CHECKS],
+        heights: Heights::NoLine,
+        wk: 0,
+        mw: 0,
+        z: 0,
+    }
 }
 
 // Refuses the sheet (1, 2), then the job (3, 4, 5), or judges it.
@@ -94,7 +85,7 @@ pub fn judge(sheet: &[u16], j: Job) -> Judged
     ensures { λ r. ⌜ r ≡ answer (now (sheet .entry)) j ⌝ }
 {
     let refusal = first_of(sheet::examine(sheet), job::examine(j));
-    if number_of(refusal) != 0 {
+    if refusal.number != 0 {
         return Judged {
             refusal,
             judgement: blank_of(),

@@ -21,7 +21,7 @@ pub record Harsher (j k : Job) : Type 0 where
   pub height : j .height ≤ k .height
   pub boarded : j .boarded ≤ k .boarded
   pub working : j .working ≤ k .working
-  pub live : j .live ≤ k .live
+  pub q : j .q ≤ k .q
   pub total : j .total ≤ k .total
   pub nets : j .nets ≤ k .nets
   pub weight : j .weight ≤ k .weight
@@ -29,6 +29,6 @@ pub record Harsher (j k : Job) : Type 0 where
   pub exposure : j .exposure ≤ k .exposure
   pub shield : j .shield ≤ k .shield
   pub capacity : k .capacity ≤ j .capacity
-  pub soil : T (soilFactor k ≼ soilFactor j)
+  pub soil : T (soilFactor (k .soil) ≼ soilFactor (j .soil))
   pub strength : k .strength ≤ j .strength
   pub pad : k .pad ≤ j .pad

@@ -1,5 +1,4 @@
 pub mod Decimals
 pub mod Section5
-pub mod Whole
 pub mod Harsher
 pub mod Marked

@@ -1,16 +1,22 @@
 -- Document 01, from "Constants" to "Heights", in its order and its symbols: lengths in metres, forces in N, loads in N/m² and N/m.
 -- Assumes nothing.
 use Prim.Native.Nat.{ℕ, zero, suc, min}
-use mathlib.Core.Bool.{Bool, true, false}
+use mathlib.Core.Bool.{Bool, true, false, _&&_, _||_, cond}
 use mathlib.Core.List.{List, [], _∷_}
 use lib.ListN.{getD}
 use lib.Dec.{leb, ltb, eqb}
-use Rattle.basis.specs.Choice.{pick, both, either}
 use Rattle.basis.specs.Fraction.{Ratio, whole, tenths, hundredths, thousandths, _⊕_, _⊗_, _⊘_, _÷_, _², _³, _⁴, _≼_, up, down, fractions}
 use Rattle.job.specs.declared.Job.{Job}
 use Rattle.section5.specs.Decimals.{0·001, 0·175, 0·213, 0·30, 0·7, 1·0, 1·146, 1·155, 1·19, 1·2, 1·3, 1·4, 1·615, 2·15, 2·30}
-use Rattle.section5.specs.declared.heights.Height.{Height}
-use Rattle.section5.specs.declared.heights.Height.the-variants.{None, At}
+use Rattle.section5.specs.declared.Height.{Height}
+use Rattle.section5.specs.declared.Height.the-variants.{None, At}
+use Rattle.section5.specs.declared.Heights.{Heights}
+use Rattle.section5.specs.declared.Heights.the-variants.{Nowhere, Both}
+use Rattle.section5.specs.declared.Judgement.{Judgement}
+
+-- how many checks there are
+abbrev pub checks : ℕ
+checks = 11
 
 -- metres to millimetres; N·m to N·mm
 unfoldable pub mm : Ratio → Ratio
@@ -26,9 +32,33 @@ unfoldable pub greatest : (ℕ → Bool) → ℕ → Height
 greatest p zero = elim (p zero) [ true ↦ At zero | false ↦ None ]
 greatest p (suc n) = elim (p (suc n)) [ true ↦ At (suc n) | false ↦ greatest p n ]
 
--- ---- Constants: the length factor
+-- ---- Constants
 
--- hundredths, by family, spacing row and tie column
+-- tube 1: area A 489 mm², modulus W 5,080 mm³, radius i 15.8 mm, inertia I 121,900 mm⁴; tube 2: 452, 5,130, 17.0, 130,800
+unfoldable pub tubeArea : ℕ → Ratio
+tubeArea tube = whole (cond (eqb tube 1) 489 452)
+
+unfoldable pub tubeModulus : ℕ → Ratio
+tubeModulus tube = whole (cond (eqb tube 1) 5080 5130)
+
+unfoldable pub tubeRadius : ℕ → Ratio
+tubeRadius tube = tenths (cond (eqb tube 1) 158 170)
+
+unfoldable pub tubeInertia : ℕ → Ratio
+tubeInertia tube = whole (cond (eqb tube 1) 121900 130800)
+
+-- N/mm²
+unfoldable pub f : Ratio
+f = whole 205
+
+unfoldable pub E : Ratio
+E = whole 206000
+
+-- 0.4 for soils 1 to 3, 0.5 for 4, 1.0 for 5
+unfoldable pub soilFactor : ℕ → Ratio
+soilFactor soil = tenths (cond (ltb soil 4) 4 (cond (eqb soil 4) 5 10))
+
+-- the table of the length factor, in hundredths, by family, spacing row and tie column
 unfoldable pub factors : List (List (List ℕ))
 factors =
     ((150 ∷ 170 ∷ []) ∷ (155 ∷ 175 ∷ []) ∷ (160 ∷ 180 ∷ []) ∷ [])
@@ -41,24 +71,59 @@ factorAt family row column = getD (getD (getD factors family []) row []) column 
 
 -- double row, single row
 abbrev pub familyPlace : ℕ → ℕ
-familyPlace family = pick (eqb family 1) 0 1
+familyPlace family = cond (eqb family 1) 0 1
 
 -- a double row's spacing, 105, 130 or 155, is row 0, 1 or 2; a single row has one row
 abbrev pub spacingRow : ℕ → ℕ → ℕ
-spacingRow family lb = pick (eqb family 1) (pick (ltb lb 130) 0 (pick (ltb lb 155) 1 2)) 0
+spacingRow family lb = cond (eqb family 1) (cond (ltb lb 130) 0 (cond (ltb lb 155) 1 2)) 0
 
 -- t = 2, t = 3
 abbrev pub tieColumn : ℕ → ℕ
-tieColumn ties = pick (ltb ties 3) 0 1
+tieColumn ties = cond (ltb ties 3) 0 1
+
+-- the length factor of a family, a spacing and a tie interval, in hundredths
+unfoldable pub lengthFactor : ℕ → ℕ → ℕ → ℕ
+lengthFactor family lb ties = factorAt (familyPlace family) (spacingRow family lb) (tieColumn ties)
+
+-- ---- Figures and checks of any pole, of the numbers that they rest on
+
+-- wind: 0.7 × height factor × shape × w0, up to a whole N/m²
+unfoldable pub windPressure : Ratio → Ratio → Ratio → ℕ
+windPressure exposure shape w0 = up (0·7 ⊗ exposure ⊗ shape ⊗ w0)
+
+-- its moment: 1.19 × wk × la × h² / 10, up to a whole N·mm
+unfoldable pub windMoment : ℕ → Ratio → Ratio → ℕ
+windMoment wk la h = up (mm (1·19 ⊗ whole wk ⊗ la ⊗ h ² ÷ 10))
+
+-- stability factor: the sheet's entry at Z, divided by 1000, for Z up to 250, and 7320 / Z² above
+unfoldable pub stabilityFactor : List ℕ → ℕ → Ratio
+stabilityFactor sheet Z = cond (leb Z 250) (thousandths (getD sheet Z 0)) (whole 7320 ⊘ whole Z ²)
+
+-- what the ground bears, N: soil factor × strength (kPa) × pad (cm²)
+unfoldable pub groundCapacity : ℕ → ℕ → ℕ → Ratio
+groundCapacity soil strength pad = soilFactor soil ⊗ (whole 1000 ⊗ whole strength) ⊗ (whole pad ÷ 10000)
+
+-- 7 a force n, at most φ A f
+unfoldable pub bears : Ratio → Ratio → ℕ → Bool
+bears φ A n = whole n ≼ φ ⊗ A ⊗ f
+
+-- 8 a force n beside a moment m: n/(φ A) + m/W, at most f
+unfoldable pub bends : Ratio → Ratio → Ratio → ℕ → ℕ → Bool
+bends φ A W n m = whole n ⊘ (φ ⊗ A) ⊕ whole m ⊘ W ≼ f
+
+-- 10 a force n, at most 40,000
+unfoldable pub baseBears : ℕ → Bool
+baseBears n = whole n ≼ whole 40000
+
+-- 11 a force n, at most soil factor × strength × pad
+unfoldable pub groundBears : ℕ → ℕ → ℕ → ℕ → Bool
+groundBears soil strength pad n = whole n ≼ groundCapacity soil strength pad
 
 module _ (j : Job) where
   -- ---- The job
 
   abbrev pub double : Bool
   double = eqb (j .family) 1
-
-  abbrev pub tube1 : Bool
-  tube1 = eqb (j .tube) 1
 
   abbrev pub steel : Bool
   steel = eqb (j .boards) 1
@@ -88,7 +153,7 @@ module _ (j : Job) where
 
   -- greatest live load on one layer, and summed over layers, N/m²
   unfoldable pub q : Ratio
-  q = whole (j .live)
+  q = whole (j .q)
 
   unfoldable pub Q : Ratio
   Q = whole (j .total)
@@ -103,6 +168,7 @@ module _ (j : Job) where
   unfoldable pub w0 : Ratio
   w0 = whole (j .wind)
 
+  -- the height factor
   unfoldable pub exposure : Ratio
   exposure = thousandths (j .exposure)
 
@@ -112,63 +178,45 @@ module _ (j : Job) where
   unfoldable pub capacity : Ratio
   capacity = whole (j .capacity)
 
-  -- kPa to N/m², cm² to m²
-  unfoldable pub strength : Ratio
-  strength = whole 1000 ⊗ whole (j .strength)
-
-  unfoldable pub pad : Ratio
-  pad = whole (j .pad) ÷ 10000
-
   -- ---- Constants
 
-  -- tube 1: area A 489 mm², modulus W 5,080 mm³, radius i 15.8 mm, inertia I 121,900 mm⁴; tube 2: 452, 5,130, 17.0, 130,800
+  -- the tube's
   unfoldable pub A : Ratio
-  A = whole (pick tube1 489 452)
+  A = tubeArea (j .tube)
 
   unfoldable pub W : Ratio
-  W = whole (pick tube1 5080 5130)
+  W = tubeModulus (j .tube)
 
   unfoldable pub i : Ratio
-  i = tenths (pick tube1 158 170)
+  i = tubeRadius (j .tube)
 
   unfoldable pub I : Ratio
-  I = whole (pick tube1 121900 130800)
-
-  -- N/mm²
-  unfoldable pub f : Ratio
-  f = whole 205
-
-  unfoldable pub E : Ratio
-  E = whole 206000
+  I = tubeInertia (j .tube)
 
   -- boards 300, 350, 350 N/m²; rails 110, 140, 140 N/m
   unfoldable pub g : Ratio
-  g = whole (pick steel 300 350)
+  g = whole (cond steel 300 350)
 
   unfoldable pub rail : Ratio
-  rail = whole (pick steel 110 140)
+  rail = whole (cond steel 110 140)
 
   -- the length factor, by spacing and tie interval
   unfoldable pub factor : Ratio
-  factor = hundredths (factorAt (familyPlace (j .family)) (spacingRow (j .family) (j .lb)) (tieColumn (j .ties)))
-
-  -- 0.4 for soils 1 to 3, 0.5 for 4, 1.0 for 5
-  unfoldable pub soilFactor : Ratio
-  soilFactor = tenths (pick (ltb (j .soil) 4) 4 (pick (eqb (j .soil) 4) 5 10))
+  factor = hundredths (lengthFactor (j .family) (j .lb) (j .ties))
 
   -- ---- Figures
 
   -- the shield when open; else 1.2 × shield × 1.0 (closed wall) or 1.3
   unfoldable pub shape : Ratio
-  shape = pick isOpen shield (1·2 ⊗ shield ⊗ pick (eqb (j .wall) 1) 1·0 1·3)
+  shape = cond isOpen shield (1·2 ⊗ shield ⊗ cond (eqb (j .wall) 1) 1·0 1·3)
 
   -- wind, up to a whole N/m²
   unfoldable pub wk : ℕ
-  wk = up (0·7 ⊗ exposure ⊗ shape ⊗ w0)
+  wk = windPressure exposure shape w0
 
   -- deck width: lb + 0.30 (double), lb (single)
   unfoldable pub b : Ratio
-  b = pick double (lb ⊕ 0·30) lb
+  b = cond double (lb ⊕ 0·30) lb
 
   -- fittings: layers boarded × g × la × b / 2 + working layers × rail × la + S
   unfoldable pub G2 : Ratio
@@ -182,24 +230,30 @@ module _ (j : Job) where
   unfoldable pub G1 : ℕ → Ratio
   G1 H = gk ⊗ hundredths H
 
-  -- forces, each up to a whole newton only when complete
+  -- forces: 1.2 (G1 + G2) + 1.4 L, and with wind 1.2 (G1 + G2) + 1.19 L; up to a whole newton only when complete
+  unfoldable pub exactN : ℕ → Ratio
+  exactN H = 1·2 ⊗ (G1 H ⊕ G2) ⊕ 1·4 ⊗ L
+
+  unfoldable pub exactNw : ℕ → Ratio
+  exactNw H = 1·2 ⊗ (G1 H ⊕ G2) ⊕ 1·19 ⊗ L
+
   unfoldable pub N : ℕ → ℕ
-  N H = up (1·2 ⊗ (G1 H ⊕ G2) ⊕ 1·4 ⊗ L)
+  N H = up (exactN H)
 
   unfoldable pub Nw : ℕ → ℕ
-  Nw H = up (1·2 ⊗ (G1 H ⊕ G2) ⊕ 1·19 ⊗ L)
+  Nw H = up (exactNw H)
 
-  -- moment, up to a whole N·mm
+  -- moment
   unfoldable pub Mw : ℕ
-  Mw = up (mm (1·19 ⊗ whole wk ⊗ la ⊗ h ² ÷ 10))
+  Mw = windMoment wk la h
 
   -- column slenderness, up to a whole number
   unfoldable pub Z : ℕ
   Z = up (1·155 ⊗ factor ⊗ mm h ⊘ i)
 
-  -- stability factor: the sheet's entry at Z, divided by 1000, for Z up to 250, and 7320 / Z² above
+  -- stability factor
   unfoldable pub φ : List ℕ → Ratio
-  φ sheet = pick (leb Z 250) (thousandths (getD sheet Z 0)) (whole 7320 ⊘ whole Z ²)
+  φ sheet = stabilityFactor sheet Z
 
   -- the ledger's dead and live end loads; Pg and Pq are without the factors 1.2 and 1.4
   unfoldable pub Fg : Ratio
@@ -228,7 +282,7 @@ module _ (j : Job) where
   deflection2 = whole 5 ⊗ ((g ⊕ q) ⊗ (la ÷ 2) ÷ 1000) ⊗ mm lb ⁴ ⊘ (whole 384 ⊗ E ⊗ I)
 
   unfoldable pub check2 : Bool
-  check2 = both (deflection2 ≼ mm lb ÷ 150) (deflection2 ≼ whole 10)
+  check2 = deflection2 ≼ mm lb ÷ 150 && deflection2 ≼ whole 10
 
   -- 3 ledger moment, at most f W
   unfoldable pub moment3 : ℕ
@@ -242,7 +296,7 @@ module _ (j : Job) where
   deflection4 = (1·146 ⊗ Pg ⊕ 1·615 ⊗ Pq) ⊗ mm la ³ ⊘ (whole 100 ⊗ E ⊗ I)
 
   unfoldable pub check4 : Bool
-  check4 = both (deflection4 ≼ mm la ÷ 150) (deflection4 ≼ whole 10)
+  check4 = deflection4 ≼ mm la ÷ 150 && deflection4 ≼ whole 10
 
   -- 5 slip, at most 8,000
   unfoldable pub slip : ℕ
@@ -256,33 +310,33 @@ module _ (j : Job) where
   slenderness = factor ⊗ mm h ⊘ i
 
   unfoldable pub check6 : Bool
-  check6 = slenderness ≼ whole (pick double 210 230)
+  check6 = slenderness ≼ whole (cond double 210 230)
 
   -- 7 N, at most φ A f
   unfoldable pub check7 : List ℕ → ℕ → Bool
-  check7 sheet H = whole (N H) ≼ φ sheet ⊗ A ⊗ f
+  check7 sheet H = bears (φ sheet) A (N H)
 
   -- 8 Nw/(φ A) + Mw/W, at most f; not due when w0 is at most 350, the enclosure is open and t × h × 3la is at most 30 m² (4.3.2)
   unfoldable pub check8 : List ℕ → ℕ → Bool
-  check8 sheet H = whole (Nw H) ⊘ (φ sheet ⊗ A) ⊕ whole Mw ⊘ W ≼ f
+  check8 sheet H = bends (φ sheet) A W (Nw H) Mw
 
   unfoldable pub notDue : Bool
-  notDue = both (w0 ≼ whole 350) (both isOpen (t ⊗ h ⊗ (whole 3 ⊗ la) ≼ whole 30))
+  notDue = w0 ≼ whole 350 && (isOpen && t ⊗ h ⊗ (whole 3 ⊗ la) ≼ whole 30)
 
   -- 9 tie force, at most the tie capacity
   unfoldable pub tieForce : ℕ
-  tieForce = up (1·4 ⊗ whole wk ⊗ t ⊗ h ⊗ (whole 3 ⊗ la) ⊕ whole (pick double 5000 3000))
+  tieForce = up (1·4 ⊗ whole wk ⊗ t ⊗ h ⊗ (whole 3 ⊗ la) ⊕ whole (cond double 5000 3000))
 
   unfoldable pub check9 : Bool
   check9 = whole tieForce ≼ capacity
 
   -- 10 N, at most 40,000
   unfoldable pub check10 : Bool
-  check10 = whole (N (j .height)) ≼ whole 40000
+  check10 = baseBears (N (j .height))
 
   -- 11 N, at most soil factor × strength × pad
   unfoldable pub check11 : Bool
-  check11 = whole (N (j .height)) ≼ soilFactor ⊗ strength ⊗ pad
+  check11 = groundBears (j .soil) (j .strength) (j .pad) (N (j .height))
 
   -- the row of eleven: 0 not due, 1 passes, 2 fails
   unfoldable pub verdicts : List ℕ → List ℕ
@@ -294,7 +348,7 @@ module _ (j : Job) where
       ∷ verdict check5
       ∷ verdict check6
       ∷ verdict (check7 sheet (j .height))
-      ∷ pick notDue 0 (verdict (check8 sheet (j .height)))
+      ∷ cond notDue 0 (verdict (check8 sheet (j .height)))
       ∷ verdict check9
       ∷ verdict check10
       ∷ verdict check11
@@ -320,25 +374,41 @@ module _ (j : Job) where
 
   -- the pole checks at the height H
   unfoldable pub poles : List ℕ → ℕ → Bool
-  poles sheet H = both (check7 sheet H) (either notDue (check8 sheet H))
+  poles sheet H = check7 sheet H && (notDue || check8 sheet H)
 
   -- the stability height, cm
   unfoldable pub stability : List ℕ → Height
   stability sheet = greatest (poles sheet) 6000
 
-  -- the permitted height of a stability height (5.3.7), cm
-  unfoldable pub permitted : Height → Height
-  permitted None = None
-  permitted (At H) =
-      At
-      (min (pick (ltb H 2600) H (down (whole 100 ⊗ (hundredths H ⊘ (whole 1 ⊕ 0·001 ⊗ hundredths H)))))
-      (pick double 5000 2400))
+  -- the permitted height of a stability height H (5.3.7), cm
+  unfoldable pub permitted : ℕ → ℕ
+  permitted H =
+      min (cond (ltb H 2600) H (down (whole 100 ⊗ (hundredths H ⊘ (whole 1 ⊕ 0·001 ⊗ hundredths H)))))
+      (cond double 5000 2400)
+
+  -- both heights, or none
+  unfoldable pub heights : Height → Heights
+  heights None = Nowhere
+  heights (At H) = Both H (permitted H)
+
+  -- ---- what a report tells
+
+  unfoldable pub judgement : List ℕ → Judgement
+  judgement sheet =
+      record {
+        verdicts = verdicts sheet;
+        figures = figures;
+        heights = heights (stability sheet);
+        wk = wk;
+        mw = Mw;
+        z = Z;
+      }
 
 -- on an `unfolding` line: the job and the constants, and with `paper` all the figures and checks too
 unfoldable pub given : Unit {0}
-unfolding mm lb la h t layers working q Q S gk w0 exposure shield capacity strength pad A W i I f E g rail factor soilFactor
+unfolding mm tubeArea tubeModulus tubeRadius tubeInertia f E soilFactor lb la h t layers working q Q S gk w0 exposure shield capacity A W i I g rail factor
 given = tt
 
 unfoldable pub paper : Unit {0}
-unfolding fractions given greatest factorAt shape wk b G2 L G1 N Nw Mw Z φ Fg Fq Pg Pq moment1 check1 deflection2 check2 moment3 check3 deflection4 check4 slip check5 slenderness check6 check7 check8 notDue tieForce check9 check10 check11 verdicts figures poles stability permitted
+unfolding fractions given greatest factorAt lengthFactor windPressure windMoment stabilityFactor groundCapacity bears bends baseBears groundBears shape wk b G2 L G1 exactN exactNw N Nw Mw Z φ Fg Fq Pg Pq moment1 check1 deflection2 check2 moment3 check3 deflection4 check4 slip check5 slenderness check6 check7 check8 notDue tieForce check9 check10 check11 verdicts figures poles stability permitted heights judgement
 paper = tt

@@ -1,5 +1,4 @@
 -- `judge` meets its contract. Assumes nothing.
-use mathlib.Core.Path.{_∙_, sym}
 use borrow.Author.Needs.{needs}
 use Rattle.judge.specs.Answer.{refusal}
 use Rattle.judge.proofs.Ways.{accept, ready, refuse}
@@ -13,8 +12,7 @@ judge-spec =
     (λ c κs. search needs)  -- examine-requires
     (λ c κs. search needs)  -- examine-requires-2
     (λ c κs. search needs)  -- first-of-requires
-    (λ c κs. search needs)  -- number-of-requires
     (λ c κs. search needs)  -- blank-of-requires
-    (λ c. refuse _ _ (unfold refusal in cc) (λ e. c .before .if1 .taken (c .before .before .number-of .ensures ∙ e)) (c .blank-of .ensures))  -- returns
-    (λ c κs. ready _ _ {r = c .before .before .first-of .result} (unfold refusal in cc) (sym (c .before .number-of .ensures) ∙ c .if1 .left))  -- judge-accepted-requires
-    (λ c. accept _ _ (unfold refusal in cc) (sym (c .before .before .number-of .ensures) ∙ c .before .if1 .left) (c .judge-accepted .ensures)))  -- returns-2
+    (λ c. refuse _ _ (unfold refusal in cc) (c .before .if1 .taken) (c .blank-of .ensures))  -- returns
+    (λ c κs. ready _ _ {r = c .before .before .first-of .result} (unfold refusal in cc) (c .if1 .left))  -- judge-accepted-requires
+    (λ c. accept _ _ (unfold refusal in cc) (c .before .if1 .left) (c .judge-accepted .ensures)))  -- returns-2

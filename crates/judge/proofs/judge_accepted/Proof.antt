@@ -1,7 +1,5 @@
 -- `judge_accepted` meets its contract. Assumes nothing.
-use mathlib.Core.Path.{sym, _∙_}
 use Rattle.job.proofs.Bounds.{bounds}
-use Rattle.judge.proofs.Ways.{judgement-same}
 use Rattle.judge.proofs.judge_accepted.Statement.{statement}
 use Rattle.judge.proofs.judge_accepted.Tie as tie
 
@@ -10,4 +8,4 @@ judge-accepted-spec =
     tie.close
     (tie.spec
     (λ c κs. (c .before .pre .0, bounds _ (c .before .pre .1)))  -- judgement-of-requires
-    (λ c. c .judgement-of .ensures ∙ sym (judgement-same _ _)))  -- returns
+    (λ c. c .judgement-of .ensures))  -- returns

@@ -1,0 +1,84 @@
+-- Each figure grows from a job to a harsher one.
+-- Assumes nothing.
+use mathlib.Core.Path.{ap}
+use Prim.Native.Nat.{ℕ, _*_, _≤_}
+use Rattle.basis.specs.Fraction.{fractions, _≼_}
+use Rattle.basis.proofs.Order.{mono, ceil-grows}
+use Rattle.basis.proofs.Tests.{tests}
+use Rattle.job.specs.declared.Job.{Job}
+use Rattle.section5.specs.Section5 as P
+use Rattle.section5.specs.Harsher.{Harsher}
+use Rattle.section5.proofs.LengthFactor.{lengthFactor-grows}
+use Rattle.calculation.specs.Whole.{radius, soilFactor, groundCapacity, shape, windPressure, windMoment, wk, mw, deck, fittings, deckLive, deckLoad, raised, load, force, forceWind, columnSlenderness, transomMoment, transomLoad, ledgerMoment, ledgerLoad, slip, face, tieForce}
+
+module _ {j k : Job} (h : Harsher j k) where
+  pub factor-grows : P.lengthFactor (j .family) (j .lb) (j .ties) ≤ P.lengthFactor (k .family) (k .lb) (k .ties)
+  factor-grows = lengthFactor-grows (h .family) (h .lb) (h .ties)
+
+  pub columnSlenderness-grows : columnSlenderness j ≤ columnSlenderness k
+  unfolding columnSlenderness
+  columnSlenderness-grows = ceil-grows (search (mono, factor-grows) depth 12) (ap (λ (t : ℕ). 1000 * radius t) (h .tube))
+
+  pub wk-grows : wk j ≤ wk k
+  unfolding wk windPressure shape
+  wk-grows = search (mono, h .enclosure, h .wall) depth 12
+
+  pub mw-grows : mw j ≤ mw k
+  unfolding mw windMoment
+  mw-grows = search (mono, wk-grows) depth 12
+
+  deck-grows : deck (j .family) (j .lb) ≤ deck (k .family) (k .lb)
+  unfolding deck
+  deck-grows = search (mono, h .family) depth 12
+
+  fittings-grows : fittings j ≤ fittings k
+  unfolding fittings
+  fittings-grows = search (mono, deck-grows, h .boards) depth 12
+
+  deckLive-grows : deckLive j ≤ deckLive k
+  unfolding deckLive
+  deckLive-grows = search (mono, deck-grows) depth 12
+
+  pub force-grows : {H H′ : ℕ} → H ≤ H′ → force (load j H) ≤ force (load k H′)
+  unfolding force load raised deckLoad
+  force-grows l = search (mono, fittings-grows, deckLive-grows) depth 12
+
+  pub forceWind-grows : {H H′ : ℕ} → H ≤ H′ → forceWind (load j H) ≤ forceWind (load k H′)
+  unfolding forceWind load raised deckLoad
+  forceWind-grows l = search (mono, fittings-grows, deckLive-grows) depth 12
+
+  pub transomMoment-grows : transomMoment j ≤ transomMoment k
+  unfolding transomMoment
+  transomMoment-grows = search (mono, h .boards) depth 12
+
+  pub transomLoad-grows : transomLoad j ≤ transomLoad k
+  unfolding transomLoad
+  transomLoad-grows = search (mono, h .boards) depth 12
+
+  pub ledgerMoment-grows : ledgerMoment j ≤ ledgerMoment k
+  unfolding ledgerMoment
+  ledgerMoment-grows = search (mono, h .boards) depth 12
+
+  pub ledgerLoad-grows : ledgerLoad j ≤ ledgerLoad k
+  unfolding ledgerLoad
+  ledgerLoad-grows = search (mono, h .boards) depth 12
+
+  pub slip-grows : slip j ≤ slip k
+  unfolding slip
+  slip-grows = search (mono, h .boards) depth 12
+
+  pub face-grows : face (j .ties) (j .step) (j .la) ≤ face (k .ties) (k .step) (k .la)
+  unfolding face
+  face-grows = search mono depth 12
+
+  pub tieForce-grows : tieForce j (wk j) ≤ tieForce k (wk k)
+  unfolding tieForce
+  tieForce-grows = search (mono, wk-grows, face-grows, h .family) depth 12
+
+  soilFactor-falls : soilFactor (k .soil) ≤ soilFactor (j .soil)
+  unfolding _≼_ fractions P.soilFactor
+  soilFactor-falls = let s = h .soil in omega tests
+
+  pub ground-falls : groundCapacity (k .soil) (k .strength) (k .pad) ≤ groundCapacity (j .soil) (j .strength) (j .pad)
+  unfolding groundCapacity
+  ground-falls = search (mono, soilFactor-falls) depth 12

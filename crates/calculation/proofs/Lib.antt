@@ -1,0 +1,7 @@
+pub mod Stability
+pub mod Same
+pub mod Growth
+pub mod Verdicts
+pub mod Limits
+pub mod Most
+pub mod Keep

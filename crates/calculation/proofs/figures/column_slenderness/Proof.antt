@@ -1,0 +1,22 @@
+-- `column_slenderness` meets its contract. Assumes nothing.
+use Prim.Native.Nat.{_*_, _+_}
+use borrow.Author.Needs.{needs}
+use Rattle.basis.proofs.Fits.{fits-below, is-most, lt-below}
+use Rattle.basis.proofs.Order.{mono}
+use Rattle.calculation.specs.Whole.{columnSlenderness}
+use Rattle.calculation.proofs.Most.{columnSlenderness-most}
+use Rattle.calculation.proofs.figures.column_slenderness.Statement.{statement}
+use Rattle.calculation.proofs.figures.column_slenderness.Tie as tie
+
+pub column-slenderness-spec : {M : Type 1} → statement M
+column-slenderness-spec =
+    tie.close
+    (tie.spec
+    (λ c. search needs)  -- cast-step
+    (λ c κs. search needs)  -- factor-of-requires
+    (λ c. search needs)  -- mul-ceil-div
+    (λ c. fits-below (1155 * 200 * 200) tt (search mono depth 12))  -- mul-ceil-div-2
+    (λ c κs. search needs)  -- radius-of-requires
+    (λ c. search needs)  -- mul-ceil-div-3
+    (λ c κs. (search needs, lt-below (1155 * 200 * 200 + 1000 * 170) tt (search mono depth 12)))  -- ceil-div-requires
+    (λ c. is-most _ tt (columnSlenderness-most (search)) (unfold columnSlenderness in cc)))  -- returns
