@@ -1,11 +1,5 @@
-pub mod Encode
-pub mod Front
-pub mod Groups
-pub mod Decode
 pub mod Reading
 pub mod Writing
-pub mod Numbers
 pub mod Sizes
-pub mod Files
 pub mod RoundTrip
 pub mod Beginning

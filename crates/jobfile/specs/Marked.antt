@@ -1,25 +1,21 @@
 -- The marked cases of document 01 on job files, job J's file, and the greatest length reached.
 -- Assumes nothing.
-use Prim.Native.Nat.{ℕ}
 use mathlib.Core.Path.{refl}
 use mathlib.Core.List.{List, [], _∷_}
 use lib.ListN.{replicate}
-use Rattle.basis.specs.Choice.{both, either}
 use Rattle.basis.specs.Marked.{Row, row, Hold}
-use Rattle.basis.specs.Refusal.{first}
+use Rattle.basis.specs.Refusal.{unless, first}
+use Rattle.basis.specs.Writing.{roomRefusal, writtenOr, writtenValues}
 use Rattle.job.specs.declared.Job.{Job}
 use Rattle.job.specs.Job.{jobOf, numbers}
+use Rattle.job.specs.JobJ.{numbersJ}
 use Rattle.job.specs.Ranges.{field, lbStands, heightStands, shieldStands, geometry, loads, wind, ground, outside}
 use Rattle.job.specs.Examine.{examination}
-use Rattle.jobfile.specs.Encode.{groups, encode, encodeAll}
-use Rattle.jobfile.specs.Decode.{lastGroup, extend, laterGroups, limit, decode}
-use Rattle.jobfile.specs.Read.{extra, damage, values, readRefusal, jobIn, readValues}
-use Rattle.jobfile.specs.Write.{fileOf, greatestLength, writeRefusal, writtenOr, answer, writtenValues}
-
--- the numbers of job J
-unfoldable pub sample : List ℕ
-sample =
-    1 ∷ 1 ∷ 105 ∷ 150 ∷ 180 ∷ 2 ∷ 3000 ∷ 3 ∷ 4 ∷ 2 ∷ 3000 ∷ 5000 ∷ 0 ∷ 300 ∷ 300 ∷ 1000 ∷ 1 ∷ 200 ∷ 1 ∷ 240 ∷ 1 ∷ 8000 ∷ 4 ∷ 200 ∷ 2000 ∷ []
+use Rattle.groups.specs.Encode.{groups, encode, encodeAll}
+use Rattle.groups.specs.Decode.{lastGroup, extend, laterGroups, limit, decode}
+use Rattle.groups.specs.Numbers.{extra, damage, values}
+use Rattle.jobfile.specs.Read.{readRefusal, jobIn, readValues}
+use Rattle.jobfile.specs.Write.{fileOf, greatestLength, writeRefusal, fileWritten}
 
 -- a job each of whose numbers takes as many bytes as its range lets it
 unfoldable pub longest : Job
@@ -29,24 +25,21 @@ longest =
 
 unfoldable pub rows : List Row
 rows =
-    row (encode 127) (127 ∷ [])  -- 7F
-    ∷ row (encode 128) (128 ∷ 1 ∷ [])  -- 80 01
-    ∷ row (encode 4294967295) (255 ∷ 255 ∷ 255 ∷ 255 ∷ 15 ∷ [])  -- FF FF FF FF 0F
-    ∷ row (readValues (jobIn (128 ∷ 0 ∷ []))) (6 ∷ 0 ∷ [])  -- 80 00
+    row (readValues (jobIn (128 ∷ 0 ∷ []))) (6 ∷ 0 ∷ [])  -- 80 00
     -- job J, and the same with 80 00 for its 13th number, which is 0
     ∷ row
     (readValues (jobIn
     (1 ∷ 1 ∷ 105 ∷ 150 ∷ 1 ∷ 180 ∷ 1 ∷ 2 ∷ 184 ∷ 23 ∷ 3 ∷ 4 ∷ 2 ∷ 184 ∷ 23 ∷ 136 ∷ 39 ∷ 0 ∷ 172 ∷ 2 ∷ 172 ∷ 2 ∷ 232 ∷ 7 ∷ 1 ∷ 200 ∷ 1 ∷ 1 ∷ 240 ∷ 1 ∷ 1 ∷ 192 ∷ 62 ∷ 4 ∷ 200 ∷ 1 ∷ 208 ∷ 15 ∷ [])))
-    (0 ∷ sample)
+    (0 ∷ numbersJ)
     ∷ row
     (readValues (jobIn
     (1 ∷ 1 ∷ 105 ∷ 150 ∷ 1 ∷ 180 ∷ 1 ∷ 2 ∷ 184 ∷ 23 ∷ 3 ∷ 4 ∷ 2 ∷ 184 ∷ 23 ∷ 136 ∷ 39 ∷ 128 ∷ 0 ∷ 172 ∷ 2 ∷ 172 ∷ 2 ∷ 232 ∷ 7 ∷ 1 ∷ 200 ∷ 1 ∷ 1 ∷ 240 ∷ 1 ∷ 1 ∷ 192 ∷ 62 ∷ 4 ∷ 200 ∷ 1 ∷ 208 ∷ 15 ∷ [])))
     (6 ∷ 17 ∷ [])
     -- the longest job needs the greatest length: a buffer of 41 bytes is too short for it
-    ∷ row (writtenValues (answer longest (replicate greatestLength 0))) (0 ∷ greatestLength ∷ [])
-    ∷ row (writtenValues (answer longest (replicate 41 0))) (8 ∷ greatestLength ∷ [])
+    ∷ row (writtenValues (fileWritten longest (replicate greatestLength 0))) (0 ∷ greatestLength ∷ [])
+    ∷ row (writtenValues (fileWritten longest (replicate 41 0))) (8 ∷ greatestLength ∷ [])
     ∷ []
 
 pub marked : Hold rows
-unfolding rows sample longest encode groups jobIn readRefusal damage values extra decode laterGroups lastGroup extend limit answer writtenOr writeRefusal fileOf encodeAll jobOf numbers examination outside geometry loads wind ground field lbStands heightStands shieldStands both either first
+unfolding rows numbersJ longest encode groups jobIn readRefusal damage values extra decode laterGroups lastGroup extend limit fileWritten writtenOr writeRefusal roomRefusal fileOf encodeAll jobOf numbers examination outside geometry loads wind ground field lbStands heightStands shieldStands unless first
 marked = refl

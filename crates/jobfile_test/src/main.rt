@@ -1,11 +1,12 @@
 // Holds `read` and `write` to the answers recorded in files.bin (tests/vectors/pack_files has its layout), and says where they differ.
+use basis::NOTHING;
 use basis::Refusal;
-use basis::number_of;
-use basis::place_of;
+use basis::Written;
+use groups::read_numbers;
 use job::Job;
 use job::from_numbers;
+use jobfile::JOB_NUMBERS;
 use jobfile::ReadJob;
-use jobfile::Written;
 use libc::STDOUT_FILENO;
 
 fn wide(b: u8) -> u64 {
@@ -16,30 +17,30 @@ fn byte_at(s: &[u8], i: usize) -> u64 {
     if i < s.len() { wide(s[i]) } else { 0 }
 }
 
-fn refusal_read(answer: ReadJob) -> Refusal {
-    match answer {
-        ReadJob::Accepted(_) => Refusal::Nothing,
+fn refusal_read(found: ReadJob) -> Refusal {
+    match found {
+        ReadJob::Accepted(_) => NOTHING,
         ReadJob::Refused(refusal) => refusal,
     }
 }
 
-fn refusal_written(answer: Written) -> Refusal {
-    match answer {
-        Written::Length(_) => Refusal::Nothing,
+fn refusal_written(written: Written) -> Refusal {
+    match written {
+        Written::Length(_) => NOTHING,
         Written::Refused(refusal) => refusal,
     }
 }
 
-fn length_written(answer: Written) -> usize {
-    match answer {
+fn length_written(written: Written) -> usize {
+    match written {
         Written::Length(n) => n,
         Written::Refused(_) => 0,
     }
 }
 
 fn is_refusal(refusal: Refusal, number: u64, place: u64) -> bool {
-    if number_of(refusal) == number {
-        place_of(refusal) == place
+    if refusal.number as u64 == number {
+        refusal.place == place
     } else {
         false
     }
@@ -48,7 +49,7 @@ fn is_refusal(refusal: Refusal, number: u64, place: u64) -> bool {
 // Writes a job into the first bytes of a buffer.
 fn write_part(j: Job, out: &mut [u8], length: usize) -> Written {
     if out.len() < length {
-        return Written::Refused(Refusal::Nothing);
+        return Written::Refused(NOTHING);
     }
     jobfile::write(j, &mut out[..length])
 }
@@ -118,7 +119,7 @@ fn writes_back(j: Job, file: &[u8]) -> bool {
 
 // The 25 numbers of a file whose bytes stand, written: back as the file, or refused as in reading.
 fn write_agrees(file: &[u8], number: u64, place: u64) -> bool {
-    let found = jobfile::read_numbers(file);
+    let found = read_numbers(file, JOB_NUMBERS);
     let refusal = found.refusal;
     let numbers = found.numbers;
     if 5 < number {
@@ -149,8 +150,8 @@ fn agrees(file: &[u8], number: u64, place: u64, index: u64) -> bool {
     let refusal = refusal_read(jobfile::read(file));
     if !is_refusal(refusal, number, place) {
         print(b"file ", index);
-        print(b": refused ", number_of(refusal));
-        print(b" ", place_of(refusal));
+        print(b": refused ", refusal.number as u64);
+        print(b" ", refusal.place);
         print(b", recorded ", number);
         print_line(b" ", place);
         return false;

@@ -1,5 +1,5 @@
 -- `read` meets its contract. Assumes nothing.
-use mathlib.Core.Path.{_≡_, sym, ap, _∙_}
+use mathlib.Core.Path.{_≡_, ap, _∙_}
 use denote.Ref.{now}
 use borrow.Author.Needs.{needs}
 use Rattle.jobfile.specs.Read.{readRefusal}
@@ -9,10 +9,10 @@ use Rattle.jobfile.proofs.read.Statement.{statement}
 use Rattle.jobfile.proofs.read.Tie as tie
 
 -- the refusal worked out is that of the file
-refusal-is : (c : tie.After-first-of) → c .first-of .result ≡ readRefusal (now (c .before .before .before .before .before .before .args .file))
+refusal-is : (c : tie.After-first-of) → c .first-of .result ≡ readRefusal (now (c .before .before .before .before .before .before .before .args .file))
 refusal-is c =
     let n = c .before .before in
-    read-refusal _ _ _ (n .before .before .read-numbers .ensures) (n .from-numbers .ensures) (c .before .examine .ensures) (c .first-of .ensures)
+    read-refusal _ _ _ (n .before .before .before .read-numbers .ensures) (n .from-numbers .ensures) (c .before .examine .ensures) (c .first-of .ensures)
 
 pub read-spec : {M : Type 1} → statement M
 read-spec =
@@ -22,9 +22,8 @@ read-spec =
     (λ c κs. search needs)  -- from-numbers-requires
     (λ c κs. search needs)  -- examine-requires
     (λ c κs. search needs)  -- first-of-requires
-    (λ c κs. search needs)  -- number-of-requires
     (λ c.
     let n = c .before .before .before .before in
-    let j = read-job _ _ _ (n .before .before .read-numbers .ensures) (n .from-numbers .ensures) in
-    ap Accepted j ∙ read-done _ _ (refusal-is (c .before .before)) (sym (c .before .number-of .ensures) ∙ c .if1 .taken))  -- returns
-    (λ c. read-refused _ _ (refusal-is (c .before .before)) (λ z. c .if1 .left (c .before .number-of .ensures ∙ z))))  -- returns-2
+    let j = read-job _ _ _ (n .before .before .before .read-numbers .ensures) (n .from-numbers .ensures) in
+    ap Accepted j ∙ read-done _ _ (refusal-is (c .before .before)) (c .if1 .taken))  -- returns
+    (λ c. read-refused _ _ (refusal-is (c .before .before)) (c .if1 .left)))  -- returns-2

@@ -1,0 +1,10 @@
+pub mod Encode
+pub mod Front
+pub mod Decode
+pub mod Groups
+pub mod Numbers
+pub mod Sizes
+pub mod Reading
+pub mod Files
+pub mod Places
+pub mod Beginning

@@ -1,0 +1,5 @@
+pub mod Encode
+pub mod Decode
+pub mod LowFirst
+pub mod Numbers
+pub mod Marked
