@@ -5,7 +5,5 @@ pub mod Put
 pub mod Refused
 pub mod CheckLines
 pub mod LineLengths
-pub mod Outcome
-pub mod Widths
-pub mod Standing
-pub mod Longest
+pub mod Ways
+pub mod Enough

@@ -7,14 +7,14 @@ use native.Mathlib.Omega.{arith}
 use lib.ListN.{length, set, length-append}
 use lib.Seq.{sets}
 use Rattle.report.specs.Digits.{digits}
-use Rattle.report.specs.Report.{number}
+use Rattle.report.specs.Report.{numberThen}
 use Rattle.report.specs.Put.{Put}
 use Rattle.report.proofs.Digits.{one, more, more-length}
 use Rattle.report.proofs.Stores.{sets-append, sets-last}
 
-pub number-length : (n after : ℕ) → length (number n after) ≡ suc (length (digits n))
-unfolding number
-number-length n after = rw length-append (omega arith)
+pub numberThen-length : (n after : ℕ) → length (numberThen n after) ≡ suc (length (digits n))
+unfolding numberThen
+numberThen-length n after = rw length-append (omega arith)
 
 module _ (l : List ℕ) (at : ℕ) where
   pub last-stored : (n : ℕ) → 10 ≤ n → sets (set l (at + length (digits n) - 1) (48 + n % 10)) at (digits (n / 10)) ≡ sets l at (digits n)
@@ -23,11 +23,11 @@ module _ (l : List ℕ) (at : ℕ) where
       rw (e, more n h) (sets-last l at (digits (n / 10)) (48 + n % 10))
 
   -- the first digit and the byte after the number, once the digits between are stored
-  pub number-stored : (out : List ℕ) (n rest after : ℕ) → rest < 10 → sets out at (digits rest) ≡ sets l at (digits n)
-      → Put (at + length (digits n) + 1) at (number n after) l (set (set out at (48 + rest)) (at + length (digits n)) after)
-  unfolding number
-  number-stored out n rest after h e =
+  pub numberThen-stored : (out : List ℕ) (n rest after : ℕ) → rest < 10 → sets out at (digits rest) ≡ sets l at (digits n)
+      → Put (at + length (digits n) + 1) at (numberThen n after) l (set (set out at (48 + rest)) (at + length (digits n)) after)
+  unfolding numberThen
+  numberThen-stored out n rest after h e =
       record {
-        next = rw (number-length n after) (omega arith);
+        next = rw (numberThen-length n after) (omega arith);
         now = rw (sets-append, ← e, one rest h);
       }

@@ -3,9 +3,10 @@
 use mathlib.Core.Path.{_≡_, _∙_, sym}
 use mathlib.Core.List.{List, [], _++_}
 use Prim.Native.Nat.{ℕ, _+_}
+use native.Mathlib.Nat.{zero-add}
 use native.Mathlib.Omega.{arith}
-use lib.ListN.{length, length-append}
-use lib.Seq.{sets, length-sets}
+use lib.ListN.{length, drop, length-append}
+use lib.Seq.{sets, length-sets, sets-eq}
 use Rattle.report.specs.Put.{Room, Put}
 use Rattle.report.proofs.Stores.{sets-append}
 
@@ -43,3 +44,7 @@ module _ {at : ℕ} {s out all before : List ℕ} (t : List ℕ) (u : Unfinished
 
 pub unfinished-end : {at : ℕ} {out all before : List ℕ} → Unfinished at [] out all before → Put at 0 all before out
 unfinished-end u = record { next = omega arith; now = u .made }
+
+-- bytes written at the front of a buffer
+pub put-front : {r : ℕ} {s l m : List ℕ} → Room 0 s l → Put r 0 s l m → (r ≡ length s) × (m ≡ s ++ drop (length s) l)
+put-front {s = s} {l = l} h p = (omega (arith, p .next), p .now ∙ simp zero-add at (sets-eq s l 0 (h .fits)))

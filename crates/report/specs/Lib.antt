@@ -1,6 +1,6 @@
 pub mod Digits
 pub mod Report
 pub mod Put
-pub mod Greatest
+pub mod Enough
 pub mod Marked
 pub mod Refused

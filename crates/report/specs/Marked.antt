@@ -2,19 +2,17 @@
 -- Assumes nothing.
 use mathlib.Core.Path.{refl}
 use mathlib.Core.List.{List, [], _∷_}
-use Rattle.basis.specs.Choice.{both, either}
 use Rattle.basis.specs.Fraction.{ceil, _≼_, up, down}
 use Rattle.basis.specs.Marked.{Row, row, Hold}
-use Rattle.section5.specs.Section5.{paper}
-use Rattle.section5.specs.Marked.{sheetT, jobJ}
-use Rattle.judge.specs.Answer.{judgement, answer}
-use Rattle.judge.specs.Marked.{examined}
+use Rattle.job.specs.JobJ.{jobJ}
+use Rattle.sheet.specs.SheetT.{sheetT}
+use Rattle.section5.specs.Section5.{judgement, paper}
 use Rattle.report.specs.Report.{report, lines}
 
 pub rows : List Row
 unfolding sheetT jobJ
 rows =
-    row (report ((answer sheetT jobJ) .judgement))
+    row (report (judgement jobJ sheetT))
     (
     -- 1 1 477521
     49 ∷ 32 ∷ 49 ∷ 32 ∷ 52 ∷ 55 ∷ 55 ∷ 53 ∷ 50 ∷ 49 ∷ 10
@@ -49,5 +47,5 @@ rows =
     ∷ []
 
 pub marked : Hold rows
-unfolding rows paper both either ceil _≼_ up down examined judgement answer lines report
+unfolding rows paper ceil _≼_ up down lines report
 marked = refl

@@ -1,15 +1,13 @@
--- Document 01, "Job file and report": the report of a judgement, byte by byte, and what writing it leaves.
+-- Document 01, "Job file and report": the report of a judgement, byte by byte, and what writing it answers and leaves.
 -- Assumes nothing.
 use Prim.Native.Nat.{ℕ, suc}
 use mathlib.Core.List.{List, [], _∷_, _++_}
-use lib.Dec.{leb}
-use lib.ListN.{length, drop}
-use Rattle.basis.specs.Choice.{pick}
-use Rattle.basis.specs.declared.Refusal.the-variants.{Nothing, TooShort}
-use Rattle.section5.specs.declared.heights.Height.{Height}
-use Rattle.section5.specs.declared.heights.Height.the-variants.{None, At}
-use Rattle.judge.specs.declared.Judgement.{Judgement}
-use Rattle.report.specs.declared.Written.{Written}
+use lib.ListN.{length}
+use Rattle.basis.specs.declared.Written.{Written}
+use Rattle.basis.specs.Writing.{roomRefusal, writtenOr, leftOr}
+use Rattle.section5.specs.declared.Heights.{Heights}
+use Rattle.section5.specs.declared.Heights.the-variants.{NoLine, Nowhere, Both}
+use Rattle.section5.specs.declared.Judgement.{Judgement}
 use Rattle.report.specs.Digits.{digitsWithin, digits}
 
 -- one space stands between the parts of a line
@@ -20,19 +18,23 @@ space = 32
 abbrev pub lineEnd : ℕ
 lineEnd = 10
 
--- a number and the byte after it
-unfoldable pub number : ℕ → ℕ → List ℕ
-number n after = digits n ++ (after ∷ [])
+-- the digits of a number, and the byte after them
+unfoldable pub numberThen : ℕ → ℕ → List ℕ
+numberThen n after = digits n ++ (after ∷ [])
 
 -- check, verdict, figure
 unfoldable pub checkLine : ℕ → ℕ → ℕ → List ℕ
-checkLine check verdict figure = number check space ++ (number verdict space ++ number figure lineEnd)
+checkLine check verdict figure = numberThen check space ++ (numberThen verdict space ++ numberThen figure lineEnd)
 
 -- a line for each verdict and its figure, the checks counted from the first number on
 unfoldable pub checkLines : ℕ → List ℕ → List ℕ → List ℕ
 checkLines check [] figures = []
 checkLines check (v ∷ verdicts) [] = []
 checkLines check (v ∷ verdicts) (f ∷ figures) = checkLine check v f ++ checkLines (suc check) verdicts figures
+
+-- a word, its space included, and two numbers
+unfoldable pub pairLine : List ℕ → ℕ → ℕ → List ℕ
+pairLine word first second = word ++ (numberThen first space ++ numberThen second lineEnd)
 
 -- "height "
 abbrev pub heightWord : List ℕ
@@ -50,42 +52,31 @@ windWord = 119 ∷ 105 ∷ 110 ∷ 100 ∷ 32 ∷ []
 abbrev pub columnWord : List ℕ
 columnWord = 99 ∷ 111 ∷ 108 ∷ 117 ∷ 109 ∷ 110 ∷ 32 ∷ []
 
--- the height that ends its line
-unfoldable pub lastHeight : Height → List ℕ
-lastHeight None = noneWord
-lastHeight (At H) = number H lineEnd
+-- both heights, stability first, or none; no line where heights are not asked for
+unfoldable pub heightLine : Heights → List ℕ
+heightLine NoLine = []
+heightLine Nowhere = heightWord ++ noneWord
+heightLine (Both stability permitted) = pairLine heightWord stability permitted
 
--- both heights, stability first; none if there is no stability height
-unfoldable pub heights : Height → Height → List ℕ
-heights None permitted = noneWord
-heights (At H) permitted = number H space ++ lastHeight permitted
-
-unfoldable pub heightLine : Height → Height → List ℕ
-heightLine stability permitted = heightWord ++ heights stability permitted
-
-unfoldable pub windLine : ℕ → ℕ → List ℕ
-windLine wk mw = windWord ++ (number wk space ++ number mw lineEnd)
+abbrev pub windLine : ℕ → ℕ → List ℕ
+windLine wk mw = pairLine windWord wk mw
 
 unfoldable pub columnLine : ℕ → List ℕ
-columnLine z = columnWord ++ number z lineEnd
+columnLine z = columnWord ++ numberThen z lineEnd
 
 -- on an `unfolding` line: all of the above
 unfoldable pub lines : Unit {0}
-unfolding digitsWithin digits number checkLine checkLines lastHeight heights heightLine windLine columnLine
+unfolding digitsWithin digits numberThen checkLine checkLines pairLine heightLine columnLine
 lines = tt
 
 unfoldable pub report : Judgement → List ℕ
 report g =
-    checkLines 1 (g .verdicts) (g .figures)
-    ++ (heightLine (g .stability) (g .permitted) ++ (windLine (g .wk) (g .mw) ++ columnLine (g .z)))
+    checkLines 1 (g .verdicts) (g .figures) ++ (heightLine (g .heights) ++ (windLine (g .wk) (g .mw) ++ columnLine (g .z)))
 
--- what writing it into a buffer answers: refusal 8 with the length needed, or the length written
-unfoldable pub outcome : Judgement → List ℕ → Written
-outcome g out =
-    pick (leb (length (report g)) (length out))
-    record { refusal = Nothing; length = length (report g) }
-    record { refusal = TooShort (length (report g)); length = 0 }
+-- what writing it into a buffer answers: the length written, or refusal 8 with the length needed
+abbrev pub reportWritten : Judgement → List ℕ → Written
+reportWritten g out = writtenOr (roomRefusal (report g) out) (length (report g))
 
--- and what it leaves in the buffer: the report and every later byte as it was, or every byte as it was
-unfoldable pub leaves : Judgement → List ℕ → List ℕ
-leaves g out = pick (leb (length (report g)) (length out)) (report g ++ drop (length (report g)) out) out
+-- and what it leaves in the buffer
+abbrev pub reportLeft : Judgement → List ℕ → List ℕ
+reportLeft g out = leftOr (roomRefusal (report g) out) (report g) out

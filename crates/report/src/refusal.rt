@@ -2,10 +2,7 @@
 ghost use mathlib.Core.Path.{_≡_};
 ghost use lib.ListN.{length};
 ghost use Rattle.report.specs.Refused.{refusedLine, writtenOver};
-use crate::lines::LINE_END;
-use crate::lines::SPACE;
-use crate::text::put_number;
-use crate::text::put_word;
+use crate::lines::put_pair_line;
 
 // The length of a buffer that has room for the line of any refusal.
 pub const ROOM: usize = 192;
@@ -14,7 +11,5 @@ pub const ROOM: usize = 192;
 pub fn write_refused(number: u64, place: u64, out: &mut [u8; ROOM]) -> usize
     ensures { λ r. ⌜ (r ≡ length (refusedLine number place)) × (now (out .exit) ≡ writtenOver (refusedLine number place) (now (out .entry))) ⌝ }
 {
-    let second = put_word(out, 0, b"refused ");
-    let third = put_number(out, second, number, SPACE);
-    put_number(out, third, place, LINE_END)
+    put_pair_line(out, 0, b"refused ", number, place)
 }

@@ -2,7 +2,7 @@
 ghost use lib.ListN.{length};
 ghost use Rattle.basis.specs.Figure.{Is};
 ghost use Rattle.report.specs.Digits.{digits};
-ghost use Rattle.report.specs.Report.{number};
+ghost use Rattle.report.specs.Report.{numberThen};
 ghost use Rattle.report.specs.Put.{Room, Put};
 
 // How many digits a number has, by division.
@@ -51,8 +51,8 @@ pub(crate) fn digit_count(n: u64) -> usize
 
 // A number, its last digit first, and the byte after it.
 pub(crate) fn put_number(out: &mut [u8], at: usize, n: u64, after: u8) -> usize
-    requires { ⌜ Room at (number n after) (now out) ⌝ }
-    ensures { λ r. ⌜ Put r at (number n after) (now (out .entry)) (now (out .exit)) ⌝ }
+    requires { ⌜ Room at (numberThen n after) (now out) ⌝ }
+    ensures { λ r. ⌜ Put r at (numberThen n after) (now (out .entry)) (now (out .exit)) ⌝ }
 {
     let end = at + digit_count(n);
     let mut place = end;

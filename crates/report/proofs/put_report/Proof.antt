@@ -13,19 +13,20 @@ put-report-spec =
     (λ c κs. unfold report in
     let d = c .before .before .before in
     room-first _ (room-then (d .put-checks .ensures) (d .before .before .before .before .before .pre)))  -- put-height-line-requires
+    (λ c. search needs)  -- slice-aggregate-put-pair-line
     (λ c κs. unfold report in
-    let e = c .before .before .before in
+    let e = c .before .before .before .before in
     let d = e .before .before .before .before in
-    room-first _ (room-then (e .put-height-line .ensures) (room-then (d .put-checks .ensures) (d .before .before .before .before .before .pre))))  -- put-wind-line-requires
+    room-first _ (room-then (e .put-height-line .ensures) (room-then (d .put-checks .ensures) (d .before .before .before .before .before .pre))))  -- put-pair-line-requires
     (λ c κs. unfold report in
     let f = c .before .before .before in
-    let e = f .before .before .before .before in
+    let e = f .before .before .before .before .before in
     let d = e .before .before .before .before in
-    room-then (f .put-wind-line .ensures) (room-then (e .put-height-line .ensures) (room-then (d .put-checks .ensures) (d .before .before .before .before .before .pre))))  -- put-column-line-requires
+    room-then (f .put-pair-line .ensures) (room-then (e .put-height-line .ensures) (room-then (d .put-checks .ensures) (d .before .before .before .before .before .pre))))  -- put-column-line-requires
     (λ c. search needs)  -- same-length
     (λ c. unfold report in
     let h = c .before .before in
     let f = h .before .before .before .before in
-    let e = f .before .before .before .before in
+    let e = f .before .before .before .before .before in
     let d = e .before .before .before .before in
-    put-then (d .put-checks .ensures) (put-then (e .put-height-line .ensures) (put-then (f .put-wind-line .ensures) (h .put-column-line .ensures)))))  -- returns
+    put-then (d .put-checks .ensures) (put-then (e .put-height-line .ensures) (put-then (f .put-pair-line .ensures) (h .put-column-line .ensures)))))  -- returns

@@ -1,6 +1,6 @@
 -- `write` meets its contract. Assumes nothing.
 use borrow.Author.Needs.{needs}
-use Rattle.report.proofs.Outcome.{short, done}
+use Rattle.report.proofs.Ways.{short, done}
 use Rattle.report.proofs.write.Statement.{statement}
 use Rattle.report.proofs.write.Tie as tie
 

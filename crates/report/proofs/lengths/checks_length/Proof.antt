@@ -4,6 +4,7 @@ use Prim.Native.Nat.{_+_, _-_, _*_, _≤_}
 use native.Mathlib.Omega.{arith}
 use lib.ListN.{length, drop, length-append}
 use borrow.Author.Needs.{needs}
+use Rattle.section5.specs.Section5.{checks}
 use Rattle.report.specs.Report.{checkLines}
 use Rattle.report.proofs.CheckLines.{lines-next, lines-end}
 use Rattle.report.proofs.lengths.checks_length.Statement.{statement}
@@ -11,12 +12,12 @@ use Rattle.report.proofs.lengths.checks_length.Tie as tie
 
 abbrev Inv-loop : tie.InvT-loop
 Inv-loop verdicts figures i₀ sum₀ i sum =
-    (i ≤ 11) × (sum + length (checkLines (i + 1) (drop i verdicts) (drop i figures)) ≡ length (checkLines 1 verdicts figures)) × (sum ≤ 63 * i)
+    (i ≤ checks) × (sum + length (checkLines (i + 1) (drop i verdicts) (drop i figures)) ≡ length (checkLines 1 verdicts figures)) × (sum ≤ 63 * i)
 
 abbrev μ-loop : tie.MeasureT-loop
-μ-loop verdicts figures i₀ sum₀ i sum = 11 - i
+μ-loop verdicts figures i₀ sum₀ i sum = checks - i
 
-lengths : (c : tie.Start Inv-loop μ-loop) → (length (c .args .t1) ≡ 11) × (length (c .args .t2) ≡ 11)
+lengths : (c : tie.Start Inv-loop μ-loop) → (length (c .args .t1) ≡ checks) × (length (c .args .t2) ≡ checks)
 lengths c = (search needs, search needs)
 
 pub checks-length-spec : {M : Type 1} → statement M

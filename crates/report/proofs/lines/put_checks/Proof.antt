@@ -5,6 +5,7 @@ use Prim.Native.Nat.{_+_, _-_, _≤_}
 use native.Mathlib.Omega.{arith}
 use lib.ListN.{length, getD, drop}
 use borrow.Author.Needs.{needs}
+use Rattle.section5.specs.Section5.{checks}
 use Rattle.report.specs.Report.{checkLine, checkLines}
 use Rattle.report.proofs.Put.{Unfinished, unfinished-room, unfinished-next, unfinished-end}
 use Rattle.report.proofs.CheckLines.{lines-next, lines-end}
@@ -13,12 +14,12 @@ use Rattle.report.proofs.lines.put_checks.Tie as tie
 
 abbrev Inv-loop : tie.InvT-loop
 Inv-loop out₀ verdicts figures i₀ at₀ out i at =
-    (i ≤ 11) × Unfinished at (checkLines (i + 1) (drop i verdicts) (drop i figures)) out (checkLines 1 verdicts figures) out₀
+    (i ≤ checks) × Unfinished at (checkLines (i + 1) (drop i verdicts) (drop i figures)) out (checkLines 1 verdicts figures) out₀
 
 abbrev μ-loop : tie.MeasureT-loop
-μ-loop out₀ verdicts figures i₀ at₀ out i at = 11 - i
+μ-loop out₀ verdicts figures i₀ at₀ out i at = checks - i
 
-lengths : (c : tie.Start Inv-loop μ-loop) → (length (c .args .t2) ≡ 11) × (length (c .args .t3) ≡ 11)
+lengths : (c : tie.Start Inv-loop μ-loop) → (length (c .args .t2) ≡ checks) × (length (c .args .t3) ≡ checks)
 lengths c = (search needs, search needs)
 
 -- the line of check i, and those after it

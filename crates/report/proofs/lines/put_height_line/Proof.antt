@@ -1,7 +1,8 @@
 -- `put_height_line` meets its contract. Assumes nothing.
+use mathlib.Core.Path.{refl}
+use native.Mathlib.Omega.{arith}
 use borrow.Author.Needs.{needs}
 use Rattle.report.specs.Report.{heightLine}
-use Rattle.report.proofs.Put.{room-first, room-then, put-then}
 use Rattle.report.proofs.lines.put_height_line.Statement.{statement}
 use Rattle.report.proofs.lines.put_height_line.Tie as tie
 
@@ -9,12 +10,19 @@ pub put-height-line-spec : {M : Type 1} → statement M
 put-height-line-spec =
     tie.close
     (tie.spec
+    (λ c. search needs)  -- enum-told
+    (λ c. search needs)  -- enum-told-2
     (λ c. search needs)  -- slice-aggregate-put-word
-    (λ c κs. unfold heightLine in room-first _ (c .before .before .before .pre))  -- put-word-requires
     (λ c κs. unfold heightLine in
-    let d = c .before .before .before in
-    room-then (d .put-word .ensures) (d .before .before .before .before .pre))  -- put-heights-requires
+    let s = c .before .before in
+    rw (s .enum-told2 .given .1) at (s .before .before .before .pre))  -- put-word-requires
+    (λ c. search needs)  -- enum-known-heights
+    (λ c. search needs)  -- slice-aggregate-put-pair-line
+    (λ c κs. unfold heightLine in
+    let s = c .before .before .before in
+    rw (s .heights .given .1) at (s .before .before .before .pre))  -- put-pair-line-requires
+    (λ c. unfold heightLine in rw (c .enum-told .given .1) record { next = omega arith; now = refl })  -- returns
     (λ c. search needs)  -- same-length
-    (λ c. unfold heightLine in
-    let e = c .before .before in
-    put-then (e .before .before .before .before .put-word .ensures) (e .put-heights .ensures)))  -- returns
+    (λ c. unfold heightLine in let d = c .before .before in rw (d .before .before .before .enum-told2 .given .1) (d .put-word .ensures))  -- returns-2
+    (λ c. search needs)  -- same-length-2
+    (λ c. unfold heightLine in let d = c .before .before in rw (d .before .before .before .before .heights .given .1) (d .put-pair-line .ensures)))  -- returns-3

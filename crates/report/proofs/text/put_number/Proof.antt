@@ -7,7 +7,7 @@ use lib.Seq.{sets}
 use borrow.Author.Needs.{needs}
 use Rattle.report.specs.Digits.{digits}
 use Rattle.report.proofs.Digits.{more-length}
-use Rattle.report.proofs.Numbers.{number-length, last-stored, number-stored}
+use Rattle.report.proofs.Numbers.{numberThen-length, last-stored, numberThen-stored}
 use Rattle.report.proofs.text.put_number.Statement.{statement}
 use Rattle.report.proofs.text.put_number.Tie as tie
 
@@ -20,7 +20,7 @@ abbrev μ-loop : tie.MeasureT-loop
 
 -- the buffer has room for the digits and the byte after them
 room : (c : tie.After-digit-count Inv-loop μ-loop) → c .before .before .args .at + c .digit-count .result < length (c .before .before .args .out .now)
-room c = omega (arith, rw number-length at (c .before .before .pre .fits))
+room c = omega (arith, rw numberThen-length at (c .before .before .pre .fits))
 
 pub put-number-spec : {M : Type 1} → statement M
 put-number-spec =
@@ -46,4 +46,4 @@ put-number-spec =
     (λ c. simp length-set (omega arith))  -- slice-write-out-3
     (λ c. omega arith)  -- add-result
     (λ c. simp length-set (c .before .loop .inv .4))  -- same-length
-    (λ c. rw (c .before .before .digit-count .ensures .is) (number-stored _ _ _ _ _ _ (c .loop-test .left) (c .before .loop .inv .0))))  -- returns
+    (λ c. rw (c .before .before .digit-count .ensures .is) (numberThen-stored _ _ _ _ _ _ (c .loop-test .left) (c .before .loop .inv .0))))  -- returns
