@@ -42,7 +42,7 @@ extern "C" {
 #define REMBILUNG_NUMBERS 25
 /* No job file is longer, and no report: with buffers of these sizes refusal 8 never comes. */
 #define REMBILUNG_FILE_MOST 42
-#define REMBILUNG_REPORT_MOST 164
+#define REMBILUNG_REPORT_MOST 167
 
 /* The numbers of a job in their order: numbers[REMBILUNG_BAY] is the bay. Fields count from 1 in a refusal, so field p
  * is numbers[p - 1]. Beside each: the field, its unit, its range. */

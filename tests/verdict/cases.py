@@ -38,33 +38,31 @@ SHEET = sheet_bytes(T)
 FILE = job()  # 38 bytes
 LONGEST = groups(4294967295) * 25  # five bytes each
 
-# crate: column.dat (None: missing), standard input, standard output
-STORED = {
-    "verdict": (SHEET, FILE, REPORT),
-    # 1: the length of column.dat in bytes, whatever else is wrong
-    "verdict_missing": (None, b"", "refused 1 0\n"),
-    "verdict_short": (SHEET[:501], FILE, "refused 1 501\n"),
-    "verdict_long": (SHEET + bytes(4498), FILE, "refused 1 5000\n"),
-    # 2: entry 250 may be 117 and not 116; it comes before 6
-    "verdict_2": (sheet_bytes(T[:250] + [116]), b"", "refused 2 250\n"),
-    # 3: the strength of the ground is from 10 on
-    "verdict_3": (SHEET, job(field24=9), "refused 3 24\n"),
-    # 4: five working layers of four boarded ones
-    "verdict_4": (SHEET, job(field10=5), "refused 4 10\n"),
-    # 5: a single row on a wall of 180 mm
-    "verdict_5": (SHEET, job(field1=2, field7=2400, field20=180), "refused 5 20\n"),
-    # 6: the last number, of two bytes at offset 36, is cut off
-    "verdict_6": (SHEET, FILE[:-1], "refused 6 36\n"),
-    # 7: thousands of bytes after 25 numbers
-    "verdict_7": (SHEET, LONGEST + bytes(5000), "refused 7 125\n"),
-}
+# what the crate verdict is run on: column.dat, standard input, standard output
+STORED = {"verdict": (SHEET, FILE, REPORT)}
 
-# the same, without a crate of its own
+# the same without a crate: column.dat (None: missing), standard input, standard output
 MORE = {
+    # 1: the length of column.dat in bytes, whatever else is wrong
+    "no column.dat": (None, b"", "refused 1 0\n"),
     "empty column.dat": (b"", FILE, "refused 1 0\n"),
+    "column.dat cut short": (SHEET[:501], FILE, "refused 1 501\n"),
     "one byte of column.dat too many": (SHEET + b"\0", FILE, "refused 1 503\n"),
+    "column.dat longer than any buffer": (SHEET + bytes(4498), FILE, "refused 1 5000\n"),
     "column.dat of megabytes": (bytes(3000001), FILE, "refused 1 3000001\n"),
-    "one byte after job J": (SHEET, FILE + b"\0", "refused 7 38\n"),
+    # 2: entry 250 may be 117 and not 116; it comes before 6
+    "last entry 116": (sheet_bytes(T[:250] + [116]), b"", "refused 2 250\n"),
+    # 3: the strength of the ground is from 10 on
+    "strength 9": (SHEET, job(field24=9), "refused 3 24\n"),
     "25 numbers of five bytes": (SHEET, LONGEST, "refused 3 1\n"),
+    # 4: five working layers of four boarded ones
+    "five working layers of four": (SHEET, job(field10=5), "refused 4 10\n"),
+    # 5: a single row on a wall of 180 mm
+    "single row on a thin wall": (SHEET, job(field1=2, field7=2400, field20=180), "refused 5 20\n"),
+    # 6: the last number, of two bytes at offset 36, is cut off
+    "job file cut off": (SHEET, FILE[:-1], "refused 6 36\n"),
     "no standard input": (SHEET, b"", "refused 6 0\n"),
+    # 7: thousands of bytes after 25 numbers
+    "one byte after job J": (SHEET, FILE + b"\0", "refused 7 38\n"),
+    "far more than 25 numbers": (SHEET, LONGEST + bytes(5000), "refused 7 125\n"),
 }

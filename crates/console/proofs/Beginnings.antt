@@ -1,18 +1,16 @@
 -- What is printed depends on a sheet's length, its first 502 bytes and a file's beginning.
 -- Assumes nothing.
 use Prim.Native.Nat.{ℕ, min}
-use mathlib.Core.Path.{_≡_, ap}
+use mathlib.Core.Path.{_≡_}
 use mathlib.Core.List.{List}
 use native.Mathlib.Omega.{arith}
 use lib.Dec.{eqb}
 use lib.ListN.{length, take}
 use lib.Seq.{take-all}
 use borrow.Author.Tests.{ne-eqb, eqb-true, eqb-false}
-use Rattle.basis.specs.declared.Refusal.the-variants.{SheetLength}
+use Rattle.basis.specs.Refusal.{sheetLength, unless}
 use Rattle.basis.proofs.Tests.{cases}
 use Rattle.basis.proofs.Refusals.{first-here}
-use Rattle.jobfile.specs.declared.ReadNumbers.{ReadNumbers}
-use Rattle.jobfile.specs.Read.{damage, values, numbersIn, readRefusal}
 use Rattle.jobfile.specs.Beginning.{beginningLength}
 use Rattle.jobfile.proofs.Beginning.{beginning}
 use Rattle.rembilung.specs.Call.{text, sheetRefusal, callRefusal}
@@ -20,15 +18,12 @@ use Rattle.console.specs.Printed.{line, refusalOf, printed, printedFrom,
 
 module _ (sheet file : List ℕ) where
   file-beginning : printed sheet (take beginningLength file) ≡ printed sheet file
-  unfolding printed refusalOf callRefusal text readRefusal numbersIn
-  file-beginning =
-      let d : damage 25 0 (take beginningLength file) ≡ damage 25 0 file = ap (λ (n : ReadNumbers). n .refusal) (beginning .same-numbers file) in
-      let v : values 25 (take beginningLength file) ≡ values 25 file = ap (λ (n : ReadNumbers). n .numbers) (beginning .same-numbers file) in
-      rw (d, v)
+  unfolding printed refusalOf callRefusal text
+  file-beginning = rw (beginning .same-job file)
 
-  other-length : (length sheet ≡ 502 → ⊥) → printed sheet file ≡ line (SheetLength (length sheet))
-  unfolding printed refusalOf callRefusal sheetRefusal
-  other-length h = rw (ne-eqb (length sheet) 502 h, ← first-here (SheetLength (length sheet)) _ (λ e. omega arith))
+  other-length : (length sheet ≡ 502 → ⊥) → printed sheet file ≡ line (sheetLength (length sheet))
+  unfolding printed refusalOf callRefusal sheetRefusal unless
+  other-length h = rw (ne-eqb (length sheet) 502 h, ← first-here (sheetLength (length sheet)) _ (λ e. omega arith))
 
 suffice : (n : ℕ) (sheet file : List ℕ) → min n 4294967295 ≡ min (length sheet) 4294967295
     → printedFrom n (take 502 sheet) (take beginningLength file) ≡ printed sheet file

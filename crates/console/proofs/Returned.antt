@@ -11,11 +11,13 @@ use borrow.Author.Tests.{eq-eqb, ne-eqb, eqb-true, eqb-false, leb-true}
 use Rattle.basis.specs.Refusal.{number, place}
 use Rattle.basis.specs.declared.Refusal.{Refusal}
 use Rattle.basis.proofs.Tests.{cases}
-use Rattle.basis.proofs.Refusals.{nothing, first-nothing}
+use Rattle.basis.proofs.Refusals.{first-nothing}
+use Rattle.basis.proofs.Writing.{room-fits}
 use Rattle.io.specs.Counts.{Counts}
 use Rattle.report.specs.Refused.{refusedLine, writtenOver}
-use Rattle.rembilung.specs.Code.{code}
-use Rattle.rembilung.specs.Call.{text, roomRefusal, callRefusal, callCode, callBuffer}
+use Rattle.basis.specs.Writing.{roomRefusal, writtenOr, leftOr}
+use Rattle.rembilung.specs.Code.{code, writtenCode}
+use Rattle.rembilung.specs.Call.{text, callRefusal, callCode, callBuffer}
 use Rattle.console.specs.Printed.{line, refusalOf, printed, printedFrom}
 
 -- r bytes of a buffer are the text, and the others are as they were
@@ -46,21 +48,19 @@ module _ (sheet file out : List ℕ) (l : length out ≡ 192) where
 
   -- a report that is not refused has room
   fits : number (callRefusal sheet file out) ≡ 0 → length (text sheet file) ≤ 192
-  unfolding callRefusal roomRefusal
-  fits h =
-      let e = first-nothing _ _ (first-nothing _ _ (nothing _ h) .1) .1 in
-      cases (leb (length (text sheet file)) (length out)) (λ t. omega (arith, leb-true (length (text sheet file)) (length out) t)) (λ t. absurd (omega (arith, ap number (rw t at e))))
+  unfolding callRefusal
+  fits h = omega (arith, room-fits (text sheet file) out (first-nothing _ _ (first-nothing _ _ h .1) .1))
 
   report-printed : callCode sheet file out < 4294967296
       → (callCode sheet file out ≡ length (printed sheet file)) × (callBuffer sheet file out ≡ writtenOver (printed sheet file) out)
-  unfolding callCode callBuffer printed
+  unfolding callCode callBuffer writtenOr leftOr writtenCode printed
   report-printed h =
       cases (eqb (number (callRefusal sheet file out)) 0) (λ t. rw (← same-refusal, t) (refl, refl))
       (λ t. absurd (omega (arith, rw t at h, code-least (callRefusal sheet file out) (eqb-false (number (callRefusal sheet file out)) 0 t))))
 
   refusal-printed : 4294967296 ≤ callCode sheet file out
       → (refusedLine (callCode sheet file out / 4294967296) (callCode sheet file out % 4294967296) ≡ printed sheet file) × (callBuffer sheet file out ≡ out)
-  unfolding callCode callBuffer printed
+  unfolding callCode callBuffer writtenOr leftOr writtenCode printed
   refusal-printed h =
       cases (eqb (number (callRefusal sheet file out)) 0) (λ t. absurd (omega (arith, rw t at h, fits (eqb-true (number (callRefusal sheet file out)) 0 t))))
       (λ t. rw (← same-refusal, t) (code-line (callRefusal sheet file out), refl))

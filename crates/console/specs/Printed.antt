@@ -1,14 +1,13 @@
 -- What the program prints, by definition over the bytes of column.dat and of standard input.
 -- Assumes nothing.
+use mathlib.Core.Bool.{cond}
 use Prim.Native.Nat.{ℕ, min}
 use mathlib.Core.Path.{_≡_}
 use mathlib.Core.List.{List}
 use lib.Dec.{eqb}
 use lib.ListN.{length, take, replicate}
-use Rattle.basis.specs.Choice.{pick}
-use Rattle.basis.specs.Refusal.{number, place}
+use Rattle.basis.specs.Refusal.{number, place, sheetLength}
 use Rattle.basis.specs.declared.Refusal.{Refusal}
-use Rattle.basis.specs.declared.Refusal.the-variants.{SheetLength}
 use Rattle.jobfile.specs.Beginning.{beginningLength}
 use Rattle.rembilung.specs.Call.{text, callRefusal}
 use Rattle.report.specs.Refused.{refusedLine}
@@ -23,11 +22,11 @@ refusalOf sheet file = callRefusal sheet file (replicate 192 0)
 
 -- the report, or the line of the refusal
 unfoldable pub printed : List ℕ → List ℕ → List ℕ
-printed sheet file = pick (eqb (number (refusalOf sheet file)) 0) (text sheet file) (line (refusalOf sheet file))
+printed sheet file = cond (eqb (number (refusalOf sheet file)) 0) (text sheet file) (line (refusalOf sheet file))
 
 -- the same from a sheet's length, its first bytes and the file: another length than 502 bytes is refused before anything else
 unfoldable pub printedFrom : ℕ → List ℕ → List ℕ → List ℕ
-printedFrom n sheet file = pick (eqb n 502) (printed sheet file) (line (SheetLength n))
+printedFrom n sheet file = cond (eqb n 502) (printed sheet file) (line (sheetLength n))
 
 -- a program may hold 502 bytes of column.dat and the beginning of standard input, and count the sheet's length to 4,294,967,295
 pub record Beginnings : Type 0 where

@@ -1,14 +1,14 @@
 // The program: column.dat and standard input to the whole call, its answer to standard output.
 ghost use Rattle.io.specs.Counts.{Counts};
-use crate::answer::GREATEST_PLACE;
-use crate::answer::write_answer;
+use crate::printed::GREATEST_PLACE;
+use crate::printed::write_printed;
 use basis::least_of;
 use jobfile::BEGINNING_LENGTH;
 use libc::STDIN_FILENO;
 use libc::STDOUT_FILENO;
 use report::refusal::ROOM;
 
-pub mod answer;
+pub mod printed;
 
 // Opens column.dat. One that is there and cannot be opened is named on standard error.
 fn open_sheet() -> i32 {
@@ -67,7 +67,7 @@ pub fn run()
     let mut file = [0u8; BEGINNING_LENGTH];
     let given = io::read_full(STDIN_FILENO, &mut file);
     let mut text = [0u8; ROOM];
-    let n = write_answer(length, &sheet[..kept], &file[..given], &mut text);
+    let n = write_printed(length, &sheet[..kept], &file[..given], &mut text);
     if !io::write_all(STDOUT_FILENO, &text[..n]) {
         os::fail(b"standard output");
     }

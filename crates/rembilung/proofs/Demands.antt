@@ -7,64 +7,71 @@ use lib.Dec.{eqb, lit<}
 use lib.ListN.{length}
 use borrow.Author.Tests.{eq-eqb, ne-eqb}
 use Rattle.basis.specs.Refusal.{number}
-use Rattle.basis.proofs.Refusals.{nothing, first-nothing, first-rest, unless-pass}
+use Rattle.basis.specs.Writing as Writing
+use Rattle.basis.proofs.Refusals.{first-nothing, first-rest, unless-pass}
+use Rattle.job.specs.declared.Job.{Job}
 use Rattle.job.specs.Job.{jobOf}
-use Rattle.job.specs.Examine.{examination}
+use Rattle.job.specs.Examine as Job
 use Rattle.job.proofs.Numbers.{numbers-job}
-use Rattle.section5.specs.Section5.{verdicts, figures}
-use Rattle.judge.specs.Answer.{Accepted, refusal, judgement}
-use Rattle.judge.specs.Demand3 as Judged
+use Rattle.sheet.specs.Sheet.{examination}
+use Rattle.section5.specs.Section5.{checks, verdicts, figures, judgement}
+use Rattle.judge.specs.Answer.{Accepted, refusal}
+use Rattle.judge.specs.Demand3 as Judging
 use Rattle.judge.proofs.Demand.{demand3}
-use Rattle.judge.proofs.Ways.{judged}
-use Rattle.jobfile.specs.Read.{damage, readRefusal, jobIn}
+use Rattle.judge.proofs.Ways.{accepted-judgement}
+use Rattle.jobfile.specs.Read.{readRefusal, jobIn}
 use Rattle.jobfile.specs.Write as Write
+use Rattle.jobfile.specs.declared.ReadJob.the-variants as Read
+use Rattle.jobfile.proofs.Reading.{accepted-stands}
 use Rattle.jobfile.proofs.RoundTrip.{round-trip}
 use Rattle.report.specs.Report.{report}
 use Rattle.rembilung.specs.Code.{writtenCode, readCode, readNumbers}
-use Rattle.rembilung.specs.Call.{entriesOf, jobOfFile, text, sheetRefusal, callRefusal, callCode, callBuffer}
+use Rattle.rembilung.specs.Call.{entriesOf, reportIn, text, sheetRefusal, callRefusal, callCode, callBuffer}
 use Rattle.rembilung.specs.Shown.{verdictShown}
 use Rattle.rembilung.specs.Demands.{Demand1, Demand2, Demands}
 use Rattle.rembilung.proofs.Shown.{lines-show, verdicts-digits, rows-long}
 
 demand1 : Demand1
-unfolding callCode callBuffer Write.answer Write.writtenOr Write.written writtenCode jobIn readCode readNumbers
+unfolding callCode callBuffer Write.fileWritten Write.fileLeft Writing.writtenOr Writing.leftOr writtenCode jobIn readCode readNumbers
 demand1 =
     record {
       refused = λ sheet file out h. (simp (ne-eqb (number (callRefusal sheet file out)) 0 h), simp (ne-eqb (number (callRefusal sheet file out)) 0 h));
       answered = λ sheet file out h. (simp (eq-eqb (number (callRefusal sheet file out)) 0 h), simp (eq-eqb (number (callRefusal sheet file out)) 0 h));
-      write-refused = λ j out h. (simp (ne-eqb (number (Write.writeRefusal j (length out))) 0 h), simp (ne-eqb (number (Write.writeRefusal j (length out))) 0 h));
-      write-answered = λ j out h. (simp (eq-eqb (number (Write.writeRefusal j (length out))) 0 h), simp (eq-eqb (number (Write.writeRefusal j (length out))) 0 h));
+      write-refused = λ j out h. (simp (ne-eqb (number (Write.writeRefusal j out)) 0 h), simp (ne-eqb (number (Write.writeRefusal j out)) 0 h));
+      write-answered = λ j out h. (simp (eq-eqb (number (Write.writeRefusal j out)) 0 h), simp (eq-eqb (number (Write.writeRefusal j out)) 0 h));
       read-refused = λ file before h. (simp (ne-eqb (number (readRefusal file)) 0 h), simp (ne-eqb (number (readRefusal file)) 0 h));
       read-answered = λ file before h. (simp (eq-eqb (number (readRefusal file)) 0 h), simp (eq-eqb (number (readRefusal file)) 0 h));
     }
 
+-- the report of a file that reads as a job
+text-is : (sheet file : List ℕ) {j : Job} → jobIn file ≡ Read.Accepted j → text sheet file ≡ report (judgement j (entriesOf sheet))
+unfolding text reportIn
+text-is sheet file e = rw e
+
 demand2 : Demand2
-unfolding text report judgement readCode readNumbers writtenCode
+unfolding report judgement readCode readNumbers writtenCode
 demand2 =
     record {
-      reported = λ sheet file. refl;
+      reported = λ sheet file j e. text-is sheet file e;
       job-back = λ n out before k l e. rw (round-trip .written-reads (jobOf n) out k e) (refl, numbers-job n l);
       file-back = λ file out j b e l. let w = round-trip .read-writes file j out b e l in (ap writtenCode (w .0), w .1);
     }
 
 -- an answered call has an accepted job
-call-accepted : (sheet file out : List ℕ) → number (callRefusal sheet file out) ≡ 0 → Accepted (entriesOf sheet) (jobOfFile file)
-unfolding callRefusal sheetRefusal readRefusal Accepted refusal
-call-accepted sheet file out h =
-    let n = first-nothing (sheetRefusal sheet) _ (nothing (callRefusal sheet file out) h) in
-    let f = first-nothing (readRefusal file) _ (n .1) in
-    let s = unless-pass (eqb (length sheet) 502) _ _ (lit< tt) (n .0) .1 in
-    let j = first-nothing (damage 25 0 file) (examination (jobOfFile file)) (f .0) .1 in
-    sym (first-rest _ _ (ap number s)) ∙ j
+call-accepted : (sheet file out : List ℕ) {j : Job} → jobIn file ≡ Read.Accepted j → number (callRefusal sheet file out) ≡ 0 → Accepted (entriesOf sheet) j
+unfolding callRefusal sheetRefusal Accepted refusal Job.Stands
+call-accepted sheet file out {j} e h =
+    let n = first-nothing (sheetRefusal sheet) _ h .0 in
+    let s = unless-pass (eqb (length sheet) 502) _ _ (lit< tt) n .1 in
+    ap number (sym (first-rest (examination (entriesOf sheet)) (Job.examination j) s)) ∙ accepted-stands file j e
 
 -- what an answered call's report shows
-shown : (sheet file out : List ℕ) → number (callRefusal sheet file out) ≡ 0 → (i : ℕ) → i < 11 → verdictShown (callBuffer sheet file out) i ≡ Judged.verdictAt (entriesOf sheet) (jobOfFile file) i
-unfolding text report judgement
-shown sheet file out h i l =
+shown : (sheet file out : List ℕ) {j : Job} → jobIn file ≡ Read.Accepted j → number (callRefusal sheet file out) ≡ 0 → (i : ℕ) → i < checks → verdictShown (callBuffer sheet file out) i ≡ Judging.verdictAt (entriesOf sheet) j i
+unfolding report judgement
+shown sheet file out {j} e h i l =
     let s = entriesOf sheet in
-    let j = jobOfFile file in
     let w = rows-long j s in
-    rw (demand1 .answered sheet file out h .1, judged s j (call-accepted sheet file out h), append-assoc)
+    rw (demand1 .answered sheet file out h .1, text-is sheet file e, accepted-judgement s j (call-accepted sheet file out e h), append-assoc)
     (lines-show 1 (verdicts j s) (figures j) _ i (w .0 ∙ sym (w .1)) (verdicts-digits j s) (rw (w .0) l))
 
 pub demands : Demands
@@ -74,10 +81,10 @@ demands =
       two = demand2;
       three =
           record {
-            judged = demand3;
-            reports = λ sheet file₁ file₂ out₁ out₂ a b h i l e.
-                shown sheet file₂ out₂ b i l
-                ∙ demand3 .no-pass-gained (entriesOf sheet) (jobOfFile file₁) (jobOfFile file₂) (call-accepted sheet file₁ out₁ a) (call-accepted sheet file₂ out₂ b) h i
-                (sym (shown sheet file₁ out₁ a i l) ∙ e);
+            judging = demand3;
+            reports = λ sheet file₁ file₂ out₁ out₂ j k e₁ e₂ a b h i l e.
+                shown sheet file₂ out₂ e₂ b i l
+                ∙ demand3 .no-pass-gained (entriesOf sheet) j k (call-accepted sheet file₁ out₁ e₁ a) (call-accepted sheet file₂ out₂ e₂ b) h i
+                (sym (shown sheet file₁ out₁ e₁ a i l) ∙ e);
           };
     }

@@ -3,17 +3,14 @@
 use mathlib.Core.Path.{_≡_, sym, ap}
 use mathlib.Core.List.{List}
 use Prim.Native.Nat.{ℕ}
-use borrow.Author.Tests.{eq-eqb, ne-eqb}
-use Rattle.basis.specs.Refusal.{number}
 use Rattle.basis.specs.declared.Refusal.{Refusal}
+use Rattle.basis.specs.declared.Written.{Written}
+use Rattle.basis.specs.declared.Written.the-variants as Written
 use Rattle.job.specs.declared.Job.{Job}
 use Rattle.job.specs.Job.{numbers}
 use Rattle.jobfile.specs.declared.ReadJob.{ReadJob}
 use Rattle.jobfile.specs.declared.ReadJob.the-variants.{Accepted, Refused}
-use Rattle.jobfile.specs.declared.Written.{Written}
-use Rattle.jobfile.specs.declared.Written.the-variants as Written
-use Rattle.report.specs.declared.Written as Report
-use Rattle.rembilung.specs.Code.{code, writtenCode, readCode, readNumbers, reportCode}
+use Rattle.rembilung.specs.Code.{code, writtenCode, readCode, readNumbers}
 
 pub written-length : {w : Written} {n : ℕ} → w ≡ Written.Length n → n ≡ writtenCode w
 unfolding writtenCode
@@ -38,11 +35,3 @@ read-refused e = ap readCode (sym e)
 pub numbers-refused : {a : ReadJob} {r : Refusal} (before : List ℕ) → a ≡ Refused r → before ≡ readNumbers a before
 unfolding readNumbers
 numbers-refused before e = ap (λ a. readNumbers a before) (sym e)
-
-pub report-done : (w : Report.Written) → number (w .refusal) ≡ 0 → w .length ≡ reportCode w
-unfolding reportCode
-report-done w h = simp (eq-eqb (number (w .refusal)) 0 h)
-
-pub report-refused : (w : Report.Written) → (number (w .refusal) ≡ 0 → ⊥) → code (w .refusal) ≡ reportCode w
-unfolding reportCode
-report-refused w h = simp (ne-eqb (number (w .refusal)) 0 h)

@@ -1,19 +1,18 @@
 -- The verdict shown in a line of a report is the judgement's.
 -- Assumes nothing.
 use mathlib.Core.Path.{_≡_, refl, _∙_}
-use mathlib.Core.Bool.{Bool, true, false}
+use mathlib.Core.Bool.{Bool, true, false, cond}
 use mathlib.Core.List.{List, [], _∷_, _++_, append-assoc}
 use Prim.Native.Nat.{ℕ, zero, suc, _+_, _/_, _%_, _<_}
 use native.Mathlib.Omega.{arith}
 use lib.Dec.{ltb, lit<}
 use lib.ListN.{length, getD}
 use borrow.Author.Tests.{eq-eqb, ne-eqb}
-use Rattle.basis.specs.Choice.{pick}
 use Rattle.basis.proofs.Tests.{cases}
 use Rattle.job.specs.declared.Job.{Job}
-use Rattle.section5.specs.Section5.{verdict, check1, check2, check3, check4, check5, check6, check7, check8, notDue, check9, check10, check11, verdicts, figures}
+use Rattle.section5.specs.Section5.{checks, verdict, check1, check2, check3, check4, check5, check6, check7, check8, notDue, check9, check10, check11, verdicts, figures}
 use Rattle.report.specs.Digits.{digitsWithin, digits}
-use Rattle.report.specs.Report.{space, lineEnd, number, checkLine, checkLines}
+use Rattle.report.specs.Report.{space, lineEnd, numberThen, checkLine, checkLines}
 use Rattle.report.proofs.Digits.{one}
 use Rattle.rembilung.specs.Shown.{after, afterLines, verdictShown}
 
@@ -38,12 +37,12 @@ unfolding digits
 after-digits b n l h = after-within b n n l h
 
 -- a number that the byte ends, and one that another byte ends
-ended : (b n : ℕ) (l : List ℕ) → b < 48 → after b (number n b ++ l) ≡ l
-unfolding number
+ended : (b n : ℕ) (l : List ℕ) → b < 48 → after b (numberThen n b ++ l) ≡ l
+unfolding numberThen
 ended b n l h = rw append-assoc (after-digits b n (b ∷ l) h ∙ after-here b l)
 
-passed : (b n a : ℕ) (l : List ℕ) → b < 48 → (a ≡ b → ⊥) → after b (number n a ++ l) ≡ after b l
-unfolding number
+passed : (b n a : ℕ) (l : List ℕ) → b < 48 → (a ≡ b → ⊥) → after b (numberThen n a ++ l) ≡ after b l
+unfolding numberThen
 passed b n a l h g = rw append-assoc (after-digits b n (a ∷ l) h ∙ after-other b a l g)
 
 line-end : (c v f : ℕ) (l : List ℕ) → after lineEnd (checkLine c v f ++ l) ≡ l
@@ -55,7 +54,7 @@ line-end c v f l =
 -- the verdict of the first line
 first-line : (c v f : ℕ) (l : List ℕ) → v < 10 → getD (after space (checkLine c v f ++ l)) 0 0 ≡ 48 + v
 unfolding checkLine
-first-line c v f l h = simp append-assoc (rw (ended 32 c _ (lit< tt)) (unfold number in rw one))
+first-line c v f l h = simp append-assoc (rw (ended 32 c _ (lit< tt)) (unfold numberThen in rw one))
 
 -- each is one digit
 pub OneDigit : List ℕ → Type 0
@@ -74,7 +73,7 @@ small : (b : Bool) → verdict b < 10
 small true = lit< tt
 small false = lit< tt
 
-due : (c b : Bool) → pick c 0 (verdict b) < 10
+due : (c b : Bool) → cond c 0 (verdict b) < 10
 due true b = lit< tt
 due false b = small b
 
@@ -100,6 +99,6 @@ verdicts-digits j s = (
   ),
 )
 
-pub rows-long : (j : Job) (s : List ℕ) → (length (verdicts j s) ≡ 11) × (length (figures j) ≡ 11)
+pub rows-long : (j : Job) (s : List ℕ) → (length (verdicts j s) ≡ checks) × (length (figures j) ≡ checks)
 unfolding verdicts figures
 rows-long j s = (refl, refl)

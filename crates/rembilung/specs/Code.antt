@@ -2,26 +2,23 @@
 -- Assumes nothing.
 use Prim.Native.Nat.{ℕ, _+_, _*_, min}
 use mathlib.Core.List.{List}
-use lib.Dec.{eqb}
-use Rattle.basis.specs.Choice.{pick}
 use Rattle.basis.specs.Refusal.{number, place}
 use Rattle.basis.specs.declared.Refusal.{Refusal}
+use Rattle.basis.specs.declared.Written.{Written}
+use Rattle.basis.specs.declared.Written.the-variants as Written
 use Rattle.job.specs.Job.{numbers}
 use Rattle.jobfile.specs.declared.ReadJob.{ReadJob}
 use Rattle.jobfile.specs.declared.ReadJob.the-variants.{Accepted, Refused}
-use Rattle.jobfile.specs.declared.Written.{Written}
-use Rattle.jobfile.specs.declared.Written.the-variants as Written
-use Rattle.report.specs.declared.Written as Report
 
 unfoldable pub code : Refusal → ℕ
 code refusal = number refusal * 4294967296 + min (place refusal) 4294967295
 
--- of writing a job file: its length, or the refusal
+-- of writing a file or a report: its length, or the refusal
 unfoldable pub writtenCode : Written → ℕ
 writtenCode (Written.Length n) = n
 writtenCode (Written.Refused refusal) = code refusal
 
--- of reading one: 25, or the refusal
+-- of reading a file: 25, or the refusal
 unfoldable pub readCode : ReadJob → ℕ
 readCode (Accepted j) = 25
 readCode (Refused refusal) = code refusal
@@ -30,7 +27,3 @@ readCode (Refused refusal) = code refusal
 unfoldable pub readNumbers : ReadJob → List ℕ → List ℕ
 readNumbers (Accepted j) before = numbers j
 readNumbers (Refused refusal) before = before
-
--- of writing a report: its length, or the refusal
-unfoldable pub reportCode : Report.Written → ℕ
-reportCode w = pick (eqb (number (w .refusal)) 0) (w .length) (code (w .refusal))

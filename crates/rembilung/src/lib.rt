@@ -1,41 +1,48 @@
 // The C interface: the whole call, and job files for a host that keys numbers in.
 ghost use mathlib.Core.Path.{_≡_};
 ghost use Rattle.job.specs.Job.{jobOf};
-ghost use Rattle.jobfile.specs.Read.{jobIn};
-ghost use Rattle.jobfile.specs.Write.{answer, written};
-ghost use Rattle.rembilung.specs.Code.{code, writtenCode, readCode, readNumbers, reportCode};
-ghost use Rattle.rembilung.specs.Call.{callCode, callBuffer};
-ghost use Rattle.judge.specs.Answer.{judgement};
-ghost use Rattle.report.specs.Report.{outcome, leaves};
-ghost use Rattle.sheet.specs.Sheet.{Stands};
 ghost use Rattle.job.specs.Examine.{Stands as JobStands};
+ghost use Rattle.sheet.specs.Sheet.{Stands};
+ghost use Rattle.section5.specs.Section5.{judgement};
+ghost use Rattle.jobfile.specs.Read.{jobIn};
+ghost use Rattle.jobfile.specs.Write.{fileWritten, fileLeft};
+ghost use Rattle.report.specs.Report.{reportWritten, reportLeft};
+ghost use Rattle.rembilung.specs.Code.{code, writtenCode, readCode, readNumbers};
+ghost use Rattle.rembilung.specs.Call.{callCode, callBuffer};
 use basis::Refusal;
+use basis::SHEET_LENGTH;
+use basis::Written;
 use basis::least_of;
-use basis::number_of;
-use basis::place_of;
 use job::Job;
 use job::from_numbers;
 use job::to_numbers;
 use jobfile::ReadJob;
-use jobfile::Written;
 use judge::judge_accepted;
 
 // A refusal as one number: its number above 32 bits, its place below.
 fn code_of(refusal: Refusal) -> u64
     ensures { λ r. ⌜ r ≡ code refusal ⌝ }
 {
-    number_of(refusal) * 4294967296 + least_of(place_of(refusal), 4294967295)
+    let number = refusal.number as u64;
+    number * 4294967296 + least_of(refusal.place, 4294967295)
+}
+
+// What writing answered as one number: the length alone, or the refusal.
+fn written_code(written: Written) -> u64
+    ensures { λ r. ⌜ r ≡ writtenCode written ⌝ }
+{
+    match written {
+        Written::Length(n) => n as u64,
+        Written::Refused(refusal) => code_of(refusal),
+    }
 }
 
 // The job file of 25 numbers: its length, or a refusal (3, 4, 5, 8).
 #[no_mangle]
 pub extern "C" fn rembilung_write_job(numbers: &[u32; 25], file: &mut [u8]) -> u64
-    ensures { λ r. ⌜ (r ≡ writtenCode (answer (jobOf (now (numbers .entry))) (now (file .entry)))) × (now (file .exit) ≡ written (jobOf (now (numbers .entry))) (now (file .entry))) ⌝ }
+    ensures { λ r. ⌜ (r ≡ writtenCode (fileWritten (jobOf (now (numbers .entry))) (now (file .entry)))) × (now (file .exit) ≡ fileLeft (jobOf (now (numbers .entry))) (now (file .entry))) ⌝ }
 {
-    match jobfile::write(from_numbers(*numbers), file) {
-        Written::Length(n) => n as u64,
-        Written::Refused(refusal) => code_of(refusal),
-    }
+    written_code(jobfile::write(from_numbers(*numbers), file))
 }
 
 // The 25 numbers of a job file: 25, or a refusal (6, 7, 3, 4, 5), with the numbers as they were.
@@ -55,15 +62,9 @@ pub extern "C" fn rembilung_read_job(file: &[u8], numbers: &mut [u32; 25]) -> u6
 // Judges an accepted sheet and job, and writes the report.
 fn report_into(sheet: &[u16], j: Job, out: &mut [u8]) -> u64
     requires { ⌜ Stands (now sheet) × JobStands j ⌝ }
-    ensures { λ r. ⌜ (r ≡ reportCode (outcome (judgement (now (sheet .entry)) j) (now (out .entry)))) × (now (out .exit) ≡ leaves (judgement (now (sheet .entry)) j) (now (out .entry))) ⌝ }
+    ensures { λ r. ⌜ (r ≡ writtenCode (reportWritten (judgement j (now (sheet .entry))) (now (out .entry)))) × (now (out .exit) ≡ reportLeft (judgement j (now (sheet .entry))) (now (out .entry))) ⌝ }
 {
-    let done = report::write(judge_accepted(sheet, j), out);
-    let refusal = done.refusal;
-    if number_of(refusal) == 0 {
-        done.length as u64
-    } else {
-        code_of(refusal)
-    }
+    written_code(report::write(judge_accepted(sheet, j), out))
 }
 
 // The whole call: the report's length, or a refusal (1, 2, 6, 7, 3, 4, 5, 8), with the buffer as it was.
@@ -73,11 +74,14 @@ pub extern "C" fn rembilung_verdict(sheet: &[u8], file: &[u8], report: &mut [u8]
 {
     let n = sheet.len();
     if n != 502 {
-        return code_of(Refusal::SheetLength(n as u64));
+        return code_of(Refusal {
+            number: SHEET_LENGTH,
+            place: n as u64,
+        });
     }
     let entries = sheet::entries_of(sheet);
     let refused = sheet::examine(&entries);
-    if number_of(refused) != 0 {
+    if refused.number != 0 {
         return code_of(refused);
     }
     match jobfile::read(file) {

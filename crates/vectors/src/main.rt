@@ -2,14 +2,11 @@
 ghost use mathlib.Core.Path.{_≡_};
 ghost use Prim.Native.Nat.{_<_, _≤_};
 ghost use lib.ListN.{length};
-use basis::Refusal;
-use basis::number_of;
-use basis::place_of;
 use job::Job;
 use judge::Judged;
-use judge::Judgement;
 use libc::STDOUT_FILENO;
-use section5::heights::Height;
+use section5::Heights;
+use section5::Judgement;
 
 fn say(text: &[u8]) {
     io::write_all(STDOUT_FILENO, text);
@@ -40,7 +37,7 @@ fn word_at(bytes: &[u8], at: usize) -> u64
     low + 65536 * wide(bytes[at + 2]) + 16777216 * wide(bytes[at + 3])
 }
 
-// The 16 bits that begin at a place, low byte first; 0 where they do not both lie in the bytes.
+// The 16 bits that begin at a place, low byte first; 0 where they do not (lie && in) the bytes.
 fn entry_at(bytes: &[u8], at: usize) -> u16 {
     let n = bytes.len();
     if n < 2 {
@@ -78,18 +75,28 @@ fn numbers(record: &[u8]) -> [u32; 25] {
     n
 }
 
-// 1 where there is a height, 0 for "none".
-fn given(h: Height) -> u64 {
-    match h {
-        Height::None => 0,
-        Height::At(_) => 1,
+// 1 where there are heights, 0 for "none".
+fn given(heights: Heights) -> u64 {
+    match heights {
+        Heights::NoLine => 0,
+        Heights::Nowhere => 0,
+        Heights::Both(_, _) => 1,
     }
 }
 
-fn height_of(h: Height) -> u64 {
-    match h {
-        Height::None => 0,
-        Height::At(cm) => cm,
+fn stability_of(heights: Heights) -> u64 {
+    match heights {
+        Heights::NoLine => 0,
+        Heights::Nowhere => 0,
+        Heights::Both(stability, _) => stability,
+    }
+}
+
+fn permitted_of(heights: Heights) -> u64 {
+    match heights {
+        Heights::NoLine => 0,
+        Heights::Nowhere => 0,
+        Heights::Both(_, permitted) => permitted,
     }
 }
 
@@ -97,8 +104,7 @@ fn height_of(h: Height) -> u64 {
 fn parts_of(j: Judgement) -> [u64; 31] {
     let v = j.verdicts;
     let f = j.figures;
-    let s = j.stability;
-    let p = j.permitted;
+    let h = j.heights;
     [
         0,
         0,
@@ -124,10 +130,10 @@ fn parts_of(j: Judgement) -> [u64; 31] {
         f[8],
         f[9],
         f[10],
-        given(s),
-        height_of(s),
-        given(p),
-        height_of(p),
+        given(h),
+        stability_of(h),
+        given(h),
+        permitted_of(h),
         j.wk,
         j.mw,
         j.z,
@@ -137,11 +143,10 @@ fn parts_of(j: Judgement) -> [u64; 31] {
 // After a refusal every part but its number and place counts as 0, whatever stands there.
 fn answer_of(judged: Judged) -> [u64; 31] {
     let refusal = judged.refusal;
-    let number = number_of(refusal);
-    if number != 0 {
+    if refusal.number != 0 {
         let mut answer = [0u64; 31];
-        answer[0] = number;
-        answer[1] = place_of(refusal);
+        answer[0] = refusal.number as u64;
+        answer[1] = refusal.place;
         return answer;
     }
     let judgement = judged.judgement;

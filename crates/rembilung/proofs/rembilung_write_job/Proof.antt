@@ -1,6 +1,5 @@
 -- `rembilung_write_job` meets its contract. Assumes nothing.
 use borrow.Author.Needs.{needs}
-use Rattle.rembilung.proofs.Returned.{written-length, written-refused}
 use Rattle.rembilung.proofs.rembilung_write_job.Statement.{statement}
 use Rattle.rembilung.proofs.rembilung_write_job.Tie as tie
 
@@ -10,10 +9,6 @@ rembilung-write-job-spec =
     (tie.spec
     (λ c κs. search needs)  -- from-numbers-requires
     (λ c κs. search needs)  -- write-requires
-    (λ c. search needs)  -- enum-known-n
-    (λ c. search needs)  -- enum-known-refusal
-    (λ c κs. search needs)  -- code-of-requires
+    (λ c κs. search needs)  -- written-code-requires
     (λ c. search needs)  -- same-length
-    (λ c. (cc (written-length (c .before .n .given .1)), cc))  -- returns
-    (λ c. search needs)  -- same-length-2
-    (λ c. (cc (written-refused (c .before .before .refusal .given .1)), cc)))  -- returns-2
+    (λ c. (cc, cc)))  -- returns

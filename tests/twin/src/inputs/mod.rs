@@ -97,6 +97,6 @@ pub fn block(lists: &Lists, seed: u64, number: u64) -> impl Iterator<Item = Turn
 
 /// The whole call on a job under a sheet, with a buffer that is long enough.
 pub fn verdict(random: &mut Random, job: &Job, sheet: &[u16; 251]) -> Call {
-    let report = random.within(164, 176) as usize;
+    let report = random.within(167, 179) as usize;
     Call::Verdict { sheet: sheets::to_bytes(sheet), file: files::whole(job), report, fill: random.next() }
 }

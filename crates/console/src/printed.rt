@@ -13,7 +13,7 @@ use report::refusal::write_refused;
 pub(crate) const GREATEST_PLACE: u64 = 4294967295;
 
 // The report, or the line of the refusal, at the front of a buffer, from a sheet's length and first bytes and a file; gives its length.
-pub fn write_answer(length: u64, sheet: &[u8], file: &[u8], out: &mut [u8; ROOM]) -> usize
+pub fn write_printed(length: u64, sheet: &[u8], file: &[u8], out: &mut [u8; ROOM]) -> usize
     ensures { λ r. ⌜ Counts r (now (out .exit)) ⌝ }
     ensures { λ r. ⌜ (r ≡ List·length (printedFrom length (now (sheet .entry)) (now (file .entry)))) × (now (out .exit) ≡ writtenOver (printedFrom length (now (sheet .entry)) (now (file .entry))) (now (out .entry))) ⌝ }
 {

@@ -1,11 +1,11 @@
--- `write_answer` meets its contract. Assumes nothing.
+-- `write_printed` meets its contract. Assumes nothing.
 use borrow.Author.Needs.{needs}
 use Rattle.console.proofs.Returned.{length-way, report-way, refusal-way}
-use Rattle.console.proofs.answer.write_answer.Statement.{statement}
-use Rattle.console.proofs.answer.write_answer.Tie as tie
+use Rattle.console.proofs.printed.write_printed.Statement.{statement}
+use Rattle.console.proofs.printed.write_printed.Tie as tie
 
-pub write-answer-spec : {M : Type 1} → statement M
-write-answer-spec =
+pub write-printed-spec : {M : Type 1} → statement M
+write-printed-spec =
     tie.close
     (tie.spec
     (λ c κs. search needs)  -- least-of-requires

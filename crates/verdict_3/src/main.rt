@@ -1,4 +1,0 @@
-// verdict on a field outside its range.
-fn main() {
-    console::run();
-}

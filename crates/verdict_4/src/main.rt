@@ -1,4 +1,0 @@
-// verdict on fields that contradict each other.
-fn main() {
-    console::run();
-}

@@ -1,4 +1,0 @@
-// verdict on a single row before a thin wall.
-fn main() {
-    console::run();
-}

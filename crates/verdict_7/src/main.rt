@@ -1,4 +1,0 @@
-// verdict on far more standard input than any job file.
-fn main() {
-    console::run();
-}

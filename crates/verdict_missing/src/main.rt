@@ -1,4 +1,0 @@
-// verdict without a column.dat.
-fn main() {
-    console::run();
-}
