@@ -1,4 +1,4 @@
--- A verdict 2 that stays a 2, in one place and in a row.
+-- Laws of verdicts: a row as the code puts it together; a 2 that stays a 2, in one place and in a row.
 -- Assumes nothing.
 use mathlib.Core.Path.{_≡_, refl}
 use mathlib.Core.Bool.{Bool, true, false, cond}
@@ -8,7 +8,20 @@ use native.Mathlib.Omega.{arith}
 use lib.ListN.{getD}
 use lib.Dec.{T}
 use Rattle.basis.proofs.Tests.{Keeps}
+use Rattle.job.specs.declared.Job.{Job}
 use Rattle.section5.specs.Section5.{verdict}
+use Rattle.calculation.specs.declared.columns.Column.{Column}
+use Rattle.calculation.specs.Whole.{check1, check2, check3, check4, check5, check6, bears, bends, check9, baseBears, groundBears, verdicts}
+
+module _ (c : Column) (j : Job) (w m n nw : ℕ) (exempt : Bool) where
+  -- the row, each place by its check
+  pub rowed : {v1 v2 v3 v4 v5 v6 v7 due v8 v9 v10 v11 : ℕ} {b7 b8 b10 b11 : Bool}
+      → v1 ≡ verdict (check1 j) → v2 ≡ verdict (check2 j) → v3 ≡ verdict (check3 j) → v4 ≡ verdict (check4 j) → v5 ≡ verdict (check5 j) → v6 ≡ verdict (check6 j)
+      → b7 ≡ bears c n → v7 ≡ verdict b7 → b8 ≡ bends c nw m → due ≡ verdict b8 → v8 ≡ cond exempt 0 due → v9 ≡ verdict (check9 j w)
+      → b10 ≡ baseBears n → v10 ≡ verdict b10 → b11 ≡ groundBears (j .soil) (j .strength) (j .pad) n → v11 ≡ verdict b11
+      → v1 ∷ v2 ∷ v3 ∷ v4 ∷ v5 ∷ v6 ∷ v7 ∷ v8 ∷ v9 ∷ v10 ∷ v11 ∷ [] ≡ verdicts c j w m n nw exempt
+  unfolding verdicts
+  rowed e1 e2 e3 e4 e5 e6 t7 e7 t8 ed e8 e9 t10 e10 t11 e11 = cc
 
 -- a verdict 2, fails, stays
 pub fails : {p q : Bool} → Keeps p q → verdict p ≡ 2 → verdict q ≡ 2

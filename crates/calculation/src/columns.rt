@@ -24,10 +24,10 @@ pub fn column_of(sheet: &[u16], tube: u32, z: u64) -> Column
     requires { ⌜ Stands (now sheet) × (z ≤ 293) ⌝ }
     ensures { λ r. ⌜ IsColumn r (columnAt (now (sheet .entry)) tube z) ⌝ }
 {
-    let factor = stability_factor(sheet, z);
+    let phi = stability_factor(sheet, z);
     Column {
-        over: factor.over,
-        under: factor.under,
+        over: phi.over,
+        under: phi.under,
         area: area_of(tube),
         modulus: modulus_of(tube),
     }

@@ -17,5 +17,5 @@ rows =
     ∷ []
 
 pub marked : Hold rows
-unfolding rows encode groups damage decode laterGroups lastGroup extend limit
-marked = refl
+unfolding Hold rows encode groups damage decode laterGroups lastGroup extend limit
+marked = (refl, (refl, (refl, (refl, tt))))

@@ -243,9 +243,10 @@ pub fn examine(j: Job) -> Refusal
     let field = outside_of(j);
     let thick = either_of(family == 1, 180 < j.thickness);
     let sound = either_of(family == 1, j.make == 1);
+    let summed = j.q <= j.total;
     let make = refuse_unless(sound, UNFIT_WALL, 21, NOTHING);
     let thickness = refuse_unless(thick, UNFIT_WALL, 20, make);
-    let total = refuse_unless(j.q <= j.total, CONTRADICTION, 12, thickness);
+    let total = refuse_unless(summed, CONTRADICTION, 12, thickness);
     let working = refuse_unless(j.working <= j.boarded, CONTRADICTION, 10, total);
     refuse_unless(field == 0, FIELD_RANGE, field, working)
 }

@@ -41,5 +41,5 @@ rows =
     ∷ []
 
 pub marked : Hold rows
-unfolding rows numbersJ longest encode groups jobIn readRefusal damage values extra decode laterGroups lastGroup extend limit fileWritten writtenOr writeRefusal roomRefusal fileOf encodeAll jobOf numbers examination outside geometry loads wind ground field lbStands heightStands shieldStands unless first
-marked = refl
+unfolding Hold rows numbersJ longest encode groups jobIn readRefusal damage values extra decode laterGroups lastGroup extend limit fileWritten writtenOr writeRefusal roomRefusal fileOf encodeAll jobOf numbers examination outside geometry loads wind ground field lbStands heightStands shieldStands unless first
+marked = (refl, (refl, (refl, (refl, (refl, tt)))))

@@ -44,5 +44,5 @@ unfolding sheetT firstFail unless first field lbStands heightStands shieldStands
 examined = tt
 
 pub marked : Hold rows
-unfolding rows examined answer
-marked = refl
+unfolding Hold rows examined answer
+marked = (refl, (refl, (refl, (refl, (refl, tt)))))

@@ -47,5 +47,5 @@ rows =
     ∷ []
 
 pub marked : Hold rows
-unfolding rows paper ceil _≼_ up down lines report
-marked = refl
+unfolding Hold rows paper ceil _≼_ up down lines report
+marked = (refl, tt)

@@ -33,12 +33,12 @@ verdictOf check j = getD (verdicts j sheetT) (check - 1) 0
 pub rows : List Row
 unfolding sheetT jobJ jobJ-with spacing155-with shown verdictOf
 rows =
-    -- J's verdicts, figures, heights, wk, Mw and Z
-    row (verdicts jobJ sheetT) (1 ∷ 1 ∷ 1 ∷ 1 ∷ 1 ∷ 1 ∷ 1 ∷ 0 ∷ 1 ∷ 1 ∷ 2 ∷ [])
-    ∷ row (length (verdicts jobJ sheetT) ∷ length (figures jobJ) ∷ []) (checks ∷ checks ∷ [])
-    ∷ row (figures jobJ) (477521 ∷ 1584 ∷ 571785 ∷ 2777 ∷ 4160 ∷ 171 ∷ 20093 ∷ 19030 ∷ 5953 ∷ 20093 ∷ 20093 ∷ [])
-    ∷ row (shown (heights jobJ (stability jobJ sheetT))) (3210 ∷ 3110 ∷ [])
+    -- J's figures, wk, Mw and Z, verdicts and heights
+    row (figures jobJ) (477521 ∷ 1584 ∷ 571785 ∷ 2777 ∷ 4160 ∷ 171 ∷ 20093 ∷ 19030 ∷ 5953 ∷ 20093 ∷ 20093 ∷ [])
     ∷ row (wk jobJ ∷ Mw jobJ ∷ Z jobJ ∷ []) (42 ∷ 24291 ∷ 198 ∷ [])
+    ∷ row (verdicts jobJ sheetT) (1 ∷ 1 ∷ 1 ∷ 1 ∷ 1 ∷ 1 ∷ 1 ∷ 0 ∷ 1 ∷ 1 ∷ 2 ∷ [])
+    ∷ row (length (verdicts jobJ sheetT) ∷ length (figures jobJ) ∷ []) (checks ∷ checks ∷ [])
+    ∷ row (shown (heights jobJ (stability jobJ sheetT))) (3210 ∷ 3110 ∷ [])
     -- J with strength 201 passes 11
     ∷ row (verdictOf 11 (jobJ-with 24 201) ∷ []) (1 ∷ [])
     -- J at 3,210 passes 7, at 3,211 fails
@@ -52,5 +52,5 @@ rows =
     ∷ []
 
 pub marked : Hold rows
-unfolding rows paper ceil _≼_ up down
-marked = refl
+unfolding Hold rows paper ceil _≼_ up down
+marked = (refl, (refl, (refl, (refl, (refl, (refl, (refl, (refl, (refl, (refl, tt))))))))))

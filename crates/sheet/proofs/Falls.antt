@@ -68,13 +68,13 @@ module _ (s : List ℕ) (h : Stands s) where
   entry-falls = falls-from s 250 entry-next
 
   -- the stability factor is above 0, and at most 1
-  pub factor-within : (z : ℕ) → (0 < over s z) × (over s z ≤ under z)
+  pub stability-within : (z : ℕ) → (0 < over s z) × (over s z ≤ under z)
   unfolding over under
-  factor-within z =
+  stability-within z =
       cases (leb z 250) (λ e. let l = leb-true z 250 e in rw e (entry-pos z l, entry-most z l))
       (λ e. let l : 251 * 251 ≤ z * z = search (mono, leb-false z 250 e) in rw e (omega arith))
 
--- o′ / u′ is a factor above 0, and no greater than o / u
+-- o′ / u′ is a stability factor above 0, and no greater than o / u
 pub record Weaker (o u o′ u′ : ℕ) : Type 0 where
   pub falls : o′ * u ≤ o * u′
   pub over : 0 < o′

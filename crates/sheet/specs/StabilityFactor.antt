@@ -15,7 +15,7 @@ over sheet z = cond (leb z 250) (getD sheet z 0) 7320
 unfoldable pub under : ℕ → ℕ
 under z = cond (leb z 250) 1000 (z * z)
 
--- the factor f is that of the sheet at z; it is above 0 and at most 1, and its parts are small
+-- f is the stability factor of the sheet at z; it is above 0 and at most 1, and its parts are small
 pub record Reading (f : StabilityFactor) (sheet : List ℕ) (z : ℕ) : Type 0 where
   pub over-is : f .over ≡ over sheet z
   pub over-pos : 0 < f .over

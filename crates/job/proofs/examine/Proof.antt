@@ -27,5 +27,5 @@ examine-spec =
     unless-link (c .refuse-unless5 .ensures) (ap (λ (p : ℕ). eqb p 0) f) (ap fieldRange f)
     (unless-link (c .before .refuse-unless4 .ensures) refl refl
     (unless-link (c .before .before .before .refuse-unless3 .ensures) refl refl
-    (unless-link (c .before .before .before .before .before .refuse-unless2 .ensures) (c .before .before .before .before .before .before .before .before .before .either-of .ensures) refl
-    (unless-link (c .before .before .before .before .before .before .refuse-unless .ensures) (c .before .before .before .before .before .before .before .either-of2 .ensures) refl refl))))))  -- returns
+    (unless-link (c .before .before .before .before .refuse-unless2 .ensures) (c .before .before .before .before .before .before .before .before .before .either-of .ensures) refl
+    (unless-link (c .before .before .before .before .before .refuse-unless .ensures) (c .before .before .before .before .before .before .before .either-of2 .ensures) refl refl))))))  -- returns

@@ -1,4 +1,8 @@
 -- `is_sound` meets its contract. Assumes nothing.
+use mathlib.Core.Path.{ap, ap₂, _∙_}
+use mathlib.Core.Bool.{_&&_}
+use Prim.Native.Nat.{ℕ}
+use lib.Dec.{leb}
 use borrow.Author.Needs.{needs}
 use Rattle.sheet.specs.Pass.{sound}
 use Rattle.sheet.proofs.is_sound.Statement.{statement}
@@ -15,4 +19,8 @@ is-sound-spec =
     (λ c κs. search needs)  -- falls-throughout-requires
     (λ c κs. search needs)  -- both-of-requires
     (λ c κs. search needs)  -- both-of-requires-2
-    (λ c. unfold sound in cc))  -- returns
+    (λ c.
+    unfold sound in
+    let first = ap (λ (x : ℕ). leb x 1000) (c .before .before .before .before .before .wide .ensures) in
+    let last = ap (λ (x : ℕ). leb 117 x) (c .before .before .before .wide2 .ensures) in
+    c .both-of2 .ensures ∙ ap₂ _&&_ first (c .before .both-of .ensures ∙ ap₂ _&&_ last (c .before .before .falls-throughout .ensures))))  -- returns

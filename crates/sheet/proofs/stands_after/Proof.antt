@@ -1,4 +1,6 @@
 -- `stands_after` meets its contract. Assumes nothing.
+use mathlib.Core.Path.{ap₂, _∙_}
+use mathlib.Core.Bool.{_&&_}
 use borrow.Author.Needs.{needs}
 use Rattle.sheet.specs.Sheet.{stands}
 use Rattle.sheet.proofs.stands_after.Statement.{statement}
@@ -13,4 +15,4 @@ stands-after-spec =
     (λ c κs. search needs)  -- either-of-requires-2
     (λ c κs. search needs)  -- both-of-requires
     (λ c κs. search needs)  -- both-of-requires-2
-    (λ c. unfold stands in cc))  -- returns
+    (λ c. unfold stands in c .both-of2 .ensures ∙ ap₂ _&&_ (c .before .before .before .before .within-of .ensures) (c .before .both-of .ensures ∙ ap₂ _&&_ (c .before .before .before .either-of .ensures) (c .before .before .either-of2 .ensures))))  -- returns

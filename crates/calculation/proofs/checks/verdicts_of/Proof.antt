@@ -1,6 +1,6 @@
 -- `verdicts_of` meets its contract. Assumes nothing.
 use borrow.Author.Needs.{needs}
-use Rattle.calculation.specs.Whole.{verdicts}
+use Rattle.calculation.proofs.Verdicts.{rowed}
 use Rattle.calculation.proofs.checks.verdicts_of.Statement.{statement}
 use Rattle.calculation.proofs.checks.verdicts_of.Tie as tie
 
@@ -24,4 +24,4 @@ verdicts-of-spec =
     (λ c κs. search needs)  -- verdict-of-requires-3
     (λ c κs. search needs)  -- ground-bears-requires
     (λ c κs. search needs)  -- verdict-of-requires-4
-    (λ c. unfold verdicts in cc))  -- returns
+    (λ c. rowed _ _ _ _ _ _ _ (c .before .before .before .before .before .before .before .before .before .before .before .before .before .before .before .check1-of .ensures) (c .before .before .before .before .before .before .before .before .before .before .before .before .before .before .check2-of .ensures) (c .before .before .before .before .before .before .before .before .before .before .before .before .before .check3-of .ensures) (c .before .before .before .before .before .before .before .before .before .before .before .before .check4-of .ensures) (c .before .before .before .before .before .before .before .before .before .before .before .check5-of .ensures) (c .before .before .before .before .before .before .before .before .before .before .check6-of .ensures) (c .before .before .before .before .before .before .before .before .before .bears-of .ensures) (c .before .before .before .before .before .before .before .before .verdict-of .ensures) (c .before .before .before .before .before .before .before .bends-of .ensures) (c .before .before .before .before .before .before .verdict-of2 .ensures) (c .before .before .before .before .before .due-of .ensures) (c .before .before .before .before .check9-of .ensures) (c .before .before .before .base-bears .ensures) (c .before .before .verdict-of3 .ensures) (c .before .ground-bears .ensures) (c .verdict-of4 .ensures)))  -- returns
