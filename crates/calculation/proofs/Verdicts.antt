@@ -1,12 +1,12 @@
--- Laws of verdicts: a row as the code puts it together; a 2 that stays a 2, in one place and in a row.
+-- Laws of verdicts: a row as the code puts it together; one digit each; a 2 that stays a 2, in one place and in a row.
 -- Assumes nothing.
 use mathlib.Core.Path.{_≡_, refl}
 use mathlib.Core.Bool.{Bool, true, false, cond}
 use mathlib.Core.List.{List, [], _∷_}
-use Prim.Native.Nat.{ℕ, zero, suc}
+use Prim.Native.Nat.{ℕ, zero, suc, _<_}
 use native.Mathlib.Omega.{arith}
 use lib.ListN.{getD}
-use lib.Dec.{T}
+use lib.Dec.{T, lit<}
 use Rattle.basis.proofs.Tests.{Keeps}
 use Rattle.job.specs.declared.Job.{Job}
 use Rattle.section5.specs.Section5.{verdict}
@@ -22,6 +22,14 @@ module _ (c : Column) (j : Job) (w m n nw : ℕ) (exempt : Bool) where
       → v1 ∷ v2 ∷ v3 ∷ v4 ∷ v5 ∷ v6 ∷ v7 ∷ v8 ∷ v9 ∷ v10 ∷ v11 ∷ [] ≡ verdicts c j w m n nw exempt
   unfolding verdicts
   rowed e1 e2 e3 e4 e5 e6 t7 e7 t8 ed e8 e9 t10 e10 t11 e11 = cc
+
+pub verdict-digit : (b : Bool) → verdict b < 10
+verdict-digit true = lit< tt
+verdict-digit false = lit< tt
+
+pub due-digit : (c b : Bool) → cond c 0 (verdict b) < 10
+due-digit true b = lit< tt
+due-digit false b = verdict-digit b
 
 -- a verdict 2, fails, stays
 pub fails : {p q : Bool} → Keeps p q → verdict p ≡ 2 → verdict q ≡ 2

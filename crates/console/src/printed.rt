@@ -1,6 +1,6 @@
 // What the program prints, decided from bytes.
 ghost use mathlib.Core.Path.{_≡_};
-ghost use lib.ListN.{length as List·length};
+ghost use lib.ListN.{length};
 ghost use Rattle.io.specs.Counts.{Counts};
 ghost use Rattle.report.specs.Refused.{writtenOver};
 ghost use Rattle.console.specs.Printed.{printedFrom};
@@ -12,13 +12,13 @@ use report::refusal::write_refused;
 // A place above that is given as that.
 pub(crate) const GREATEST_PLACE: u64 = 4294967295;
 
-// The report, or the line of the refusal, at the front of a buffer, from a sheet's length and first bytes and a file; gives its length.
-pub fn write_printed(length: u64, sheet: &[u8], file: &[u8], out: &mut [u8; ROOM]) -> usize
+// The report, or the line of the refusal, at the front of a buffer, from a sheet's size and first bytes and a file; gives its length.
+pub fn write_printed(size: u64, sheet: &[u8], file: &[u8], out: &mut [u8; ROOM]) -> usize
     ensures { λ r. ⌜ Counts r (now (out .exit)) ⌝ }
-    ensures { λ r. ⌜ (r ≡ List·length (printedFrom length (now (sheet .entry)) (now (file .entry)))) × (now (out .exit) ≡ writtenOver (printedFrom length (now (sheet .entry)) (now (file .entry))) (now (out .entry))) ⌝ }
+    ensures { λ r. ⌜ (r ≡ length (printedFrom size (now (sheet .entry)) (now (file .entry)))) × (now (out .exit) ≡ writtenOver (printedFrom size (now (sheet .entry)) (now (file .entry))) (now (out .entry))) ⌝ }
 {
-    if length != 502 {
-        return write_refused(1, least_of(length, GREATEST_PLACE), out);
+    if size != 502 {
+        return write_refused(1, least_of(size, GREATEST_PLACE), out);
     }
     let code = rembilung_verdict(sheet, file, out);
     if code < 4294967296 {

@@ -101,7 +101,7 @@ pub fn number_at(file: &[u8], at: usize) -> Decoded
 }
 
 // What follows the numbers, at an offset, is refused.
-fn nothing_after(file: &[u8], at: usize) -> Refusal
+pub fn nothing_after(file: &[u8], at: usize) -> Refusal
     ensures { λ r. ⌜ r ≡ extra at (drop at (now (file .entry))) ⌝ }
 {
     refuse_unless(file.len() <= at, TRAILING, at as u64, NOTHING)

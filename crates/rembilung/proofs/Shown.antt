@@ -1,7 +1,6 @@
 -- The verdict shown in a line of a report is the judgement's.
 -- Assumes nothing.
 use mathlib.Core.Path.{_≡_, refl, _∙_}
-use mathlib.Core.Bool.{Bool, true, false, cond}
 use mathlib.Core.List.{List, [], _∷_, _++_, append-assoc}
 use Prim.Native.Nat.{ℕ, zero, suc, _+_, _/_, _%_, _<_}
 use native.Mathlib.Omega.{arith}
@@ -10,7 +9,8 @@ use lib.ListN.{length, getD}
 use borrow.Author.Tests.{eq-eqb, ne-eqb}
 use Rattle.basis.proofs.Tests.{cases}
 use Rattle.job.specs.declared.Job.{Job}
-use Rattle.section5.specs.Section5.{checks, verdict, check1, check2, check3, check4, check5, check6, check7, check8, notDue, check9, check10, check11, verdicts, figures}
+use Rattle.section5.specs.Section5.{checks, check1, check2, check3, check4, check5, check6, check7, check8, notDue, check9, check10, check11, verdicts, figures}
+use Rattle.calculation.proofs.Verdicts.{verdict-digit, due-digit}
 use Rattle.report.specs.Digits.{digitsWithin, digits}
 use Rattle.report.specs.Report.{space, lineEnd, numberThen, checkLine, checkLines}
 use Rattle.report.proofs.Digits.{one}
@@ -69,29 +69,21 @@ lines-show c (v ∷ vs) (f ∷ fs) rest zero e d l = rw (append-assoc, first-lin
 lines-show c (v ∷ vs) (f ∷ fs) rest (suc i) e d l =
     rw (append-assoc, line-end c v f _) (lines-show (suc c) vs fs rest i (omega arith) (d .1) (omega arith))
 
-small : (b : Bool) → verdict b < 10
-small true = lit< tt
-small false = lit< tt
-
-due : (c b : Bool) → cond c 0 (verdict b) < 10
-due true b = lit< tt
-due false b = small b
-
 pub verdicts-digits : (j : Job) (s : List ℕ) → OneDigit (verdicts j s)
 unfolding OneDigit verdicts
 verdicts-digits j s = (
-  small (check1 j),
+  verdict-digit (check1 j),
   (
-    small (check2 j),
+    verdict-digit (check2 j),
     (
-      small (check3 j),
+      verdict-digit (check3 j),
       (
-        small (check4 j),
+        verdict-digit (check4 j),
         (
-          small (check5 j),
+          verdict-digit (check5 j),
           (
-            small (check6 j),
-            (small (check7 j s (j .height)), (due (notDue j) (check8 j s (j .height)), (small (check9 j), (small (check10 j), (small (check11 j), tt))))),
+            verdict-digit (check6 j),
+            (verdict-digit (check7 j s (j .height)), (due-digit (notDue j) (check8 j s (j .height)), (verdict-digit (check9 j), (verdict-digit (check10 j), (verdict-digit (check11 j), tt))))),
           ),
         ),
       ),

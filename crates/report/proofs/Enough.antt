@@ -1,11 +1,11 @@
 -- The length that is enough: each line's greatest length, from how many digits its figures have at most.
 -- Assumes nothing.
 use mathlib.Core.Path.{_≡_}
-use mathlib.Core.Bool.{Bool, true, false, cond}
+use mathlib.Core.Bool.{Bool, cond}
 use mathlib.Core.List.{List}
 use Prim.Native.Nat.{ℕ, zero, suc, _≤_}
 use native.Mathlib.Omega.{arith}
-use lib.Dec.{T, ltb, lit<}
+use lib.Dec.{T, ltb}
 use lib.ListN.{length, length-append}
 use Rattle.basis.proofs.Fits.{lt-below}
 use Rattle.job.specs.declared.Job.{Job}
@@ -15,6 +15,7 @@ use Rattle.section5.specs.Section5.{verdict}
 use Rattle.calculation.specs.Whole as W
 use Rattle.calculation.proofs.Most as Most
 use Rattle.calculation.proofs.Stability.{heightCount-most}
+use Rattle.calculation.proofs.Verdicts.{verdict-digit, due-digit}
 use Rattle.calculation.proofs.Same.{judgement-same}
 use Rattle.report.specs.Digits.{digitsWithin, digits}
 use Rattle.report.specs.Report.{checkLines, heightLine, report}
@@ -27,12 +28,10 @@ width : (k : ℕ) {n : ℕ} (m : ℕ) → T (ltb m (bound k)) → n ≤ m → le
 width k {n} m t h = digits-most k n (lt-below m t h)
 
 verdict-width : (b : Bool) → length (digits (verdict b)) ≡ 1
-verdict-width true = one-length 1 (lit< tt)
-verdict-width false = one-length 2 (lit< tt)
+verdict-width b = one-length _ (verdict-digit b)
 
-due-width : (n b : Bool) → length (digits (cond n 0 (verdict b))) ≡ 1
-due-width true b = one-length 0 (lit< tt)
-due-width false b = verdict-width b
+due-width : (c b : Bool) → length (digits (cond c 0 (verdict b))) ≡ 1
+due-width c b = one-length _ (due-digit c b)
 
 checks-most : (s : List ℕ) (j : Job) → Bounds j → length (checkLines 1 (W.judgement s j .verdicts) (W.judgement s j .figures)) ≤ 119
 unfolding digitsWithin digits checkLines W.judgement W.verdicts W.figures bound

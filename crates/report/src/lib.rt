@@ -1,6 +1,6 @@
 // The report of a judgement: its length, and its bytes in the caller's buffer.
 ghost use mathlib.Core.Path.{_≡_};
-ghost use lib.ListN.{length as List·length};
+ghost use lib.ListN.{length};
 ghost use Rattle.report.specs.Report.{report, reportWritten, reportLeft};
 ghost use Rattle.report.specs.Put.{Room, Put};
 use crate::lengths::checks_length;
@@ -25,8 +25,8 @@ mod text;
 pub const ENOUGH: usize = 167;
 
 // How many bytes the report of a judgement has.
-pub fn length(g: Judgement) -> usize
-    ensures { λ r. ⌜ r ≡ List·length (report g) ⌝ }
+fn report_length(g: Judgement) -> usize
+    ensures { λ r. ⌜ r ≡ length (report g) ⌝ }
 {
     let verdicts = g.verdicts;
     let figures = g.figures;
@@ -54,7 +54,7 @@ fn put_report(out: &mut [u8], g: Judgement) -> usize
 pub fn write(g: Judgement, out: &mut [u8]) -> Written
     ensures { λ r. ⌜ (r ≡ reportWritten g (now (out .entry))) × (now (out .exit) ≡ reportLeft g (now (out .entry))) ⌝ }
 {
-    let needed = length(g);
+    let needed = report_length(g);
     if out.len() < needed {
         return Written::Refused(Refusal {
             number: TOO_SHORT,

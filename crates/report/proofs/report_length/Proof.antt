@@ -1,13 +1,13 @@
--- `length` meets its contract. Assumes nothing.
+-- `report_length` meets its contract. Assumes nothing.
 use native.Mathlib.Omega.{arith}
 use lib.ListN.{length-append}
 use borrow.Author.Needs.{needs}
 use Rattle.report.specs.Report.{report}
-use Rattle.report.proofs.length.Statement.{statement}
-use Rattle.report.proofs.length.Tie as tie
+use Rattle.report.proofs.report_length.Statement.{statement}
+use Rattle.report.proofs.report_length.Tie as tie
 
-pub length-spec : {M : Type 1} → statement M
-length-spec =
+pub report-length-spec : {M : Type 1} → statement M
+report-length-spec =
     tie.close
     (tie.spec
     (λ c κs. search needs)  -- checks-length-requires
