@@ -6,7 +6,7 @@ use Prim.Native.Nat.{ℕ, _+_}
 use native.Mathlib.Omega.{arith}
 use lib.ListN.{length, length-append}
 use Rattle.report.specs.Digits.{digits}
-use Rattle.report.specs.Report.{checkLine, pairLine, columnLine}
+use Rattle.report.specs.Report.{checkLine, pair, pairLine, columnLine}
 use Rattle.report.proofs.Numbers.{numberThen-length}
 
 pub check-line-length : (check verdict figure : ℕ)
@@ -16,7 +16,7 @@ check-line-length check verdict figure = simp (length-append, numberThen-length)
 
 pub pair-line-length : (word : List ℕ) (first second : ℕ)
     → length (pairLine word first second) ≡ length word + length (digits first) + length (digits second) + 2
-unfolding pairLine
+unfolding pair pairLine
 pair-line-length word first second = simp (length-append, numberThen-length) (omega arith)
 
 pub column-line-length : (z : ℕ) → length (columnLine z) ≡ length (digits z) + 8

@@ -32,9 +32,13 @@ checkLines check [] figures = []
 checkLines check (v ∷ verdicts) [] = []
 checkLines check (v ∷ verdicts) (f ∷ figures) = checkLine check v f ++ checkLines (suc check) verdicts figures
 
+-- two numbers, with which a line ends
+unfoldable pub pair : ℕ → ℕ → List ℕ
+pair first second = numberThen first space ++ numberThen second lineEnd
+
 -- a word, its space included, and two numbers
 unfoldable pub pairLine : List ℕ → ℕ → ℕ → List ℕ
-pairLine word first second = word ++ (numberThen first space ++ numberThen second lineEnd)
+pairLine word first second = word ++ pair first second
 
 -- "height "
 abbrev pub heightWord : List ℕ
@@ -66,7 +70,7 @@ columnLine z = columnWord ++ numberThen z lineEnd
 
 -- on an `unfolding` line: all of the above
 unfoldable pub lines : Unit {0}
-unfolding digitsWithin digits numberThen checkLine checkLines pairLine heightLine columnLine
+unfolding digitsWithin digits numberThen checkLine checkLines pair pairLine heightLine columnLine
 lines = tt
 
 unfoldable pub report : Judgement → List ℕ

@@ -10,7 +10,8 @@ use crate::lengths::wind_line_length;
 use crate::lines::put_checks;
 use crate::lines::put_column_line;
 use crate::lines::put_height_line;
-use crate::lines::put_pair_line;
+use crate::lines::put_pair;
+use crate::text::put_word;
 use basis::Refusal;
 use basis::TOO_SHORT;
 use basis::Written;
@@ -46,7 +47,8 @@ fn put_report(out: &mut [u8], g: Judgement) -> usize
     let heights = g.heights;
     let height_at = put_checks(out, verdicts, figures);
     let wind_at = put_height_line(out, height_at, heights);
-    let column_at = put_pair_line(out, wind_at, b"wind ", g.wk, g.mw);
+    let wk_at = put_word(out, wind_at, b"wind ");
+    let column_at = put_pair(out, wk_at, g.wk, g.mw);
     put_column_line(out, column_at, g.z)
 }
 

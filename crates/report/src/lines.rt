@@ -1,5 +1,5 @@
 // The lines of a report, as bytes at a place of a buffer.
-ghost use Rattle.report.specs.Report.{checkLine, checkLines, pairLine, heightLine, columnLine};
+ghost use Rattle.report.specs.Report.{checkLine, checkLines, pair, heightLine, columnLine};
 ghost use Rattle.report.specs.Put.{Room, Put};
 use crate::text::put_number;
 use crate::text::put_word;
@@ -32,19 +32,12 @@ pub(crate) fn put_checks(out: &mut [u8], verdicts: [u8; CHECKS], figures: [u64; 
     at
 }
 
-// A word, its space included, and two numbers.
-pub(crate) fn put_pair_line(
-    out: &mut [u8],
-    at: usize,
-    word: &[u8],
-    first: u64,
-    second: u64,
-) -> usize
-    requires { ⌜ Room at (pairLine (now word) first second) (now out) ⌝ }
-    ensures { λ r. ⌜ Put r at (pairLine (now (word .entry)) first second) (now (out .entry)) (now (out .exit)) ⌝ }
+// Two numbers, with which a line ends. The word before them is its caller's, so that its bytes are stored without a loop.
+pub(crate) fn put_pair(out: &mut [u8], at: usize, first: u64, second: u64) -> usize
+    requires { ⌜ Room at (pair first second) (now out) ⌝ }
+    ensures { λ r. ⌜ Put r at (pair first second) (now (out .entry)) (now (out .exit)) ⌝ }
 {
-    let first_at = put_word(out, at, word);
-    let second_at = put_number(out, first_at, first, SPACE);
+    let second_at = put_number(out, at, first, SPACE);
     put_number(out, second_at, second, LINE_END)
 }
 
@@ -55,13 +48,10 @@ pub(crate) fn put_height_line(out: &mut [u8], at: usize, heights: Heights) -> us
     match heights {
         Heights::NoLine => at,
         Heights::Nowhere => put_word(out, at, b"height none\n"),
-        Heights::Both(stability, permitted) => put_pair_line(
-            out,
-            at,
-            b"height ",
-            stability,
-            permitted,
-        ),
+        Heights::Both(stability, permitted) => {
+            let stability_at = put_word(out, at, b"height ");
+            put_pair(out, stability_at, stability, permitted)
+        }
     }
 }
 

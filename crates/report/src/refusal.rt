@@ -2,7 +2,8 @@
 ghost use mathlib.Core.Path.{_≡_};
 ghost use lib.ListN.{length};
 ghost use Rattle.report.specs.Refused.{refusedLine, writtenOver};
-use crate::lines::put_pair_line;
+use crate::lines::put_pair;
+use crate::text::put_word;
 
 // The length of a buffer that has room for the line of any refusal.
 pub const ROOM: usize = 192;
@@ -11,5 +12,6 @@ pub const ROOM: usize = 192;
 pub fn write_refused(number: u64, place: u64, out: &mut [u8; ROOM]) -> usize
     ensures { λ r. ⌜ (r ≡ length (refusedLine number place)) × (now (out .exit) ≡ writtenOver (refusedLine number place) (now (out .entry))) ⌝ }
 {
-    put_pair_line(out, 0, b"refused ", number, place)
+    let number_at = put_word(out, 0, b"refused ");
+    put_pair(out, number_at, number, place)
 }
