@@ -4,7 +4,7 @@ use mathlib.Core.Bool.{Bool, true, false, cond}
 use Prim.Native.Nat.{ℕ, _+_, _*_, _-_, _≤_}
 use native.Mathlib.Nat.{le-refl, le-trans, min-le-right, mul-le-mul, mul-le-mul-left, mul-le-mul-right, div-le-of-le-mul}
 use native.Mathlib.Omega.{arith}
-use lib.Dec.{T, leb, ltb, eqb, lit≤}
+use lib.Dec.{T, leb, eqb, lit≤}
 use Rattle.basis.specs.Fraction.{ceil}
 use Rattle.basis.proofs.Order.{mono}
 use Rattle.basis.proofs.Tests.{cond-below}
@@ -16,7 +16,7 @@ use Rattle.calculation.specs.declared.loads.Load.{Load}
 use Rattle.calculation.specs.declared.columns.Column.{Column}
 use Rattle.calculation.specs.Whole.{board, rail, stiffness, overhang, shapeUnit, tieBase, heightLimit, shape, windPressure, windMoment, wk, mw, deck, fittings, deckLive, deckLoad, raised, load, force, forceWind, columnSlenderness, slenderness, transomMoment, transomLoad, transomDeflection, ledgerMoment, ledgerLoad, ledgerDeflection, slip, face, tieForce, permitted}
 use Rattle.calculation.specs.Division.{limit7, limit8}
-use Rattle.calculation.specs.Bounded.{Within, Sound}
+use Rattle.calculation.specs.Bounded.{WithinSixteen, Sound}
 
 pub board-most : (b : ℕ) → board b ≤ 350
 board-most b = cond-below (eqb b 1) (lit≤ tt) (le-refl 350)
@@ -133,7 +133,7 @@ module _ {j : Job} (r : Bounds j) where
   unfolding forceWind load raised deckLoad ceil
   forceWind-own-most = ceil-below 2000000 (120 * (200 * 500 * 5000 + 280000000) + 119 * 1110000000) tt (search (mono, fittings-most, deckLive-most) depth 12)
 
-module _ (l : Load) (w : Within l 5000000000 17760000000) where
+module _ (l : Load) (w : WithinSixteen l) where
   pub force-most : force l ≤ 1543200
   unfolding force ceil
   force-most = ceil-below 200000 (12 * 5000000000 + 14 * 17760000000) tt (search mono depth 12)

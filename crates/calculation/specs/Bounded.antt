@@ -10,6 +10,10 @@ pub record Within (l : Load) (d v : ℕ) : Type 0 where
   pub dead : l .dead ≤ d
   pub live : l .live ≤ v
 
+-- the load of at most sixteen jobs one above the other
+abbrev pub WithinSixteen : Load → Type 0
+WithinSixteen l = Within l 5000000000 17760000000
+
 -- r is the load l, and its parts are at most d and v
 pub record IsLoad (r l : Load) (d v : ℕ) : Type 0 where
   pub is : r ≡ l

@@ -3,7 +3,7 @@ ghost use Rattle.basis.specs.Figure.{Is};
 ghost use Rattle.job.specs.Bounds.{Bounds};
 ghost use Prim.Native.Nat.{_≤_};
 ghost use Rattle.calculation.specs.Whole.{deck, fittings, deckLive, deckLoad, raised, force, forceWind};
-ghost use Rattle.calculation.specs.Bounded.{Within, IsLoad};
+ghost use Rattle.calculation.specs.Bounded.{Within, WithinSixteen, IsLoad};
 use crate::constants::board_of;
 use crate::constants::overhang_of;
 use crate::constants::rail_of;
@@ -78,7 +78,7 @@ pub fn raised_by(l: Load, weight: u32, h: u32) -> Load
 // N.
 // requires: judge shows it of an accepted job's load; that of sixteen jobs one above the other is within it.
 pub fn force_of(l: Load) -> u64
-    requires { ⌜ Within l 5000000000 17760000000 ⌝ }
+    requires { ⌜ WithinSixteen l ⌝ }
     ensures { λ r. ⌜ Is r (force l) 1543200 ⌝ }
 {
     ceil_div(12 * l.dead + 14 * l.live, 200000)
@@ -87,7 +87,7 @@ pub fn force_of(l: Load) -> u64
 // Nw.
 // requires: as for N.
 pub fn force_wind_of(l: Load) -> u64
-    requires { ⌜ Within l 5000000000 17760000000 ⌝ }
+    requires { ⌜ WithinSixteen l ⌝ }
     ensures { λ r. ⌜ Is r (forceWind l) 1543200 ⌝ }
 {
     ceil_div(120 * l.dead + 119 * l.live, 2000000)

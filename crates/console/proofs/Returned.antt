@@ -1,13 +1,13 @@
 -- What the whole call returned says what is printed, one law for each way out of the code.
 -- Assumes nothing.
 use Prim.Native.Nat.{ℕ, _+_, _*_, _/_, _%_, _≤_, _<_, min}
-use mathlib.Core.Path.{_≡_, refl, ap, _∙_}
+use mathlib.Core.Path.{_≡_, refl, _∙_}
 use mathlib.Core.List.{List}
 use native.Mathlib.Omega.{arith}
-use lib.Dec.{leb, eqb}
+use lib.Dec.{eqb}
 use lib.ListN.{length, length-append, length-replicate}
 use lib.Seq.{take-append-seam}
-use borrow.Author.Tests.{eq-eqb, ne-eqb, eqb-true, eqb-false, leb-true}
+use borrow.Author.Tests.{eq-eqb, ne-eqb, eqb-true, eqb-false}
 use Rattle.basis.specs.Refusal.{number, place}
 use Rattle.basis.specs.declared.Refusal.{Refusal}
 use Rattle.basis.proofs.Tests.{cases}

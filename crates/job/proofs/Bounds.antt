@@ -1,7 +1,7 @@
 -- A job of which nothing is refused has each field in its range.
 -- Assumes nothing.
 use mathlib.Core.Path.{_≡_}
-use mathlib.Core.Bool.{Bool, true, false, _&&_, cond}
+use mathlib.Core.Bool.{Bool, true, false, cond}
 use Prim.Native.Nat.{ℕ, _≤_, _<_}
 use native.Mathlib.Nat.{le-trans}
 use native.Mathlib.Omega.{arith}

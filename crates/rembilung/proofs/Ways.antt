@@ -16,7 +16,7 @@ use Rattle.section5.specs.Section5.{judgement}
 use Rattle.jobfile.specs.Read.{jobIn}
 use Rattle.jobfile.specs.declared.ReadJob.the-variants.{Accepted, Refused}
 use Rattle.jobfile.proofs.Reading.{refused-number}
-use Rattle.report.specs.Report.{report, reportWritten, reportLeft}
+use Rattle.report.specs.Report.{reportWritten, reportLeft}
 use Rattle.rembilung.specs.Code.{code, writtenCode}
 use Rattle.rembilung.specs.Call.{entriesOf, refusalIn, reportIn, text, sheetRefusal, callRefusal, callCode, callBuffer}
 
