@@ -31,7 +31,7 @@ deflects-short l a c pos = ap (λ b. b && leb (l * a) (10 * c)) (leb-same down (
     down : 15 * (l * a) ≤ a * c → 15 * l ≤ c
     down h = let u : a * (15 * l) ≤ a * c = omega arith in le-of-mul-le-mul-left u pos
 
--- n ≤ (o / u) c, from a greater n′ under a weaker factor
+-- n ≤ (o / u) c, from a greater n′ under a weaker stability factor
 carries : {n n′ o u o′ u′ c c′ : ℕ} → Weaker o u o′ u′ → n ≤ n′ → c ≡ c′ → n′ * u′ ≤ o′ * c′ → n * u ≤ o * c
 carries {n} {n′} {o} {u} {o′} {u′} {c} {c′} f p e t =
     let a : u′ * (n′ * u) ≤ u′ * (o * c′) = omega (arith, mul-le-mul-right u t, mul-le-mul-right c′ (f .falls)) in

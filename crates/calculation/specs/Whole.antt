@@ -200,7 +200,7 @@ check5 j = leb (slip j) 8000
 unfoldable pub check6 : Job → Bool
 check6 j = leb (lengthFactor (j .family) (j .lb) (j .ties) * j .step) (slenderLimit (j .family) * radius (j .tube))
 
--- 7: n ≤ φ A f, times the factor's denominator
+-- 7: n ≤ φ A f, times the denominator of φ
 unfoldable pub bears : Column → ℕ → Bool
 bears c n = leb (n * c .under) (c .over * (205 * c .area))
 

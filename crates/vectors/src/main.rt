@@ -37,7 +37,7 @@ fn word_at(bytes: &[u8], at: usize) -> u64
     low + 65536 * wide(bytes[at + 2]) + 16777216 * wide(bytes[at + 3])
 }
 
-// The 16 bits that begin at a place, low byte first; 0 where they do not (lie && in) the bytes.
+// The 16 bits that begin at a place, low byte first; 0 where they do not both lie in the bytes.
 fn entry_at(bytes: &[u8], at: usize) -> u16 {
     let n = bytes.len();
     if n < 2 {
