@@ -16,7 +16,7 @@ use Rattle.calculation.specs.declared.loads.Load.{Load}
 use Rattle.calculation.specs.declared.columns.Column.{Column}
 use Rattle.calculation.specs.Whole.{board, rail, stiffness, overhang, shapeUnit, tieBase, heightLimit, shape, windPressure, windMoment, wk, mw, deck, fittings, deckLive, deckLoad, raised, load, force, forceWind, columnSlenderness, slenderness, transomMoment, transomLoad, transomDeflection, ledgerMoment, ledgerLoad, ledgerDeflection, slip, face, tieForce, permitted}
 use Rattle.calculation.specs.Division.{limit7, limit8}
-use Rattle.calculation.specs.Bounded.{WithinSixteen, Sound}
+use Rattle.calculation.specs.Bounded.{WithinSixteen, Proper}
 
 pub board-most : (b : ℕ) → board b ≤ 350
 board-most b = cond-below (eqb b 1) (lit≤ tt) (le-refl 350)
@@ -143,7 +143,7 @@ module _ (l : Load) (w : WithinSixteen l) where
   forceWind-most = ceil-below 2000000 (120 * 5000000000 + 119 * 17760000000) tt (search mono depth 12)
 
 -- no column bears more than A f, its stability factor being at most 1
-module _ {c : Column} (s : Sound c) where
+module _ {c : Column} (s : Proper c) where
   pub over-most : c .over ≤ 100000
   over-most = le-trans (s .at-most-one) (s .under-most)
 

@@ -20,7 +20,7 @@ use Rattle.calculation.specs.declared.loads.Load.{Load}
 use Rattle.calculation.specs.declared.columns.Column.{Column}
 use Rattle.calculation.specs.Whole.{raised, force, forceWind, bears, bends, poles, heightCount, fromCount, permitted, heights}
 use Rattle.calculation.specs.Division.{limit7, limit8, countUpTo, count7, count8}
-use Rattle.calculation.specs.Bounded.{Sound}
+use Rattle.calculation.specs.Bounded.{Proper}
 
 -- the greatest number up to n at which a test passes, by a count
 pub greatest-top : (p : ℕ → Bool) (n : ℕ) → greatest p n ≡ fromCount (top p (suc n))
@@ -38,7 +38,7 @@ greatest-top p (suc n) = go (p (suc n)) refl (greatest-top p n)
 
 -- ---- the limits of checks 7 and 8 as quotients
 
-module _ (c : Column) (s : Sound c) (n : ℕ) where
+module _ (c : Column) (s : Proper c) (n : ℕ) where
   under-pos : 0 < c .under
   under-pos = le-trans (s .over-pos) (s .at-most-one)
 
@@ -100,7 +100,7 @@ countUpTo-most : (c k b : ℕ) → countUpTo c k b ≤ 6001
 unfolding countUpTo
 countUpTo-most c k b = cond-below (leb c b) (min-le-left 6001 ((b - c) / k + 1)) zero≤
 
-module _ (c : Column) (s : Sound c) (l : Load) (w : ℕ) (p : 0 < w) (m : ℕ) (H : ℕ) (h : H < 6001) where
+module _ (c : Column) (s : Proper c) (l : Load) (w : ℕ) (p : 0 < w) (m : ℕ) (H : ℕ) (h : H < 6001) where
   count7-iff : T (bears c (force (raised l w H))) ↔ (H < count7 c l w)
   unfolding count7 force raised
   count7-iff =
@@ -145,7 +145,7 @@ module _ (c : Column) (s : Sound c) (l : Load) (w : ℕ) (p : 0 < w) (m : ℕ) (
       passes false k = count8-iff .1 k
 
 -- the count of heights at which the pole checks pass, as a quotient
-pub heightCount-is : (c : Column) → Sound c → (l : Load) (w : ℕ) → 0 < w → (m : ℕ) (exempt : Bool) → heightCount c l w m exempt ≡ min (count7 c l w) (cond exempt 6001 (count8 c l w m))
+pub heightCount-is : (c : Column) → Proper c → (l : Load) (w : ℕ) → 0 < w → (m : ℕ) (exempt : Bool) → heightCount c l w m exempt ≡ min (count7 c l w) (cond exempt 6001 (count8 c l w m))
 unfolding heightCount
 heightCount-is c s l w p m exempt =
     top-is (poles c l w m exempt) 6001 (min (count7 c l w) (cond exempt 6001 (count8 c l w m)))

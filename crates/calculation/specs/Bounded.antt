@@ -19,8 +19,8 @@ pub record IsLoad (r l : Load) (d v : ℕ) : Type 0 where
   pub is : r ≡ l
   pub within : Within r d v
 
--- a column's stability factor is above 0 and at most 1; nothing that is divided by is 0
-pub record Sound (c : Column) : Type 0 where
+-- a column whose stability factor is a proper fraction, above 0 and at most 1; nothing that is divided by is 0
+pub record Proper (c : Column) : Type 0 where
   pub over-pos : 0 < c .over
   pub at-most-one : c .over ≤ c .under
   pub under-most : c .under ≤ 100000
@@ -29,7 +29,7 @@ pub record Sound (c : Column) : Type 0 where
   pub modulus-pos : 0 < c .modulus
   pub modulus-most : c .modulus ≤ 5130
 
--- r is the column c, and sound
+-- r is the column c, and proper
 pub record IsColumn (r c : Column) : Type 0 where
   pub is : r ≡ c
-  pub sound : Sound r
+  pub proper : Proper r

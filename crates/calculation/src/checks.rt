@@ -5,7 +5,7 @@ ghost use Prim.Native.Nat.{_≤_, _<_};
 ghost use Rattle.job.specs.Bounds.{Bounds};
 ghost use Rattle.section5.specs.Section5.{verdict};
 ghost use Rattle.calculation.specs.Whole.{deflects, check1, check2, check3, check4, check5, check6, check9, notDue, baseBears, groundBears, verdicts};
-ghost use Rattle.calculation.specs.Bounded.{Sound};
+ghost use Rattle.calculation.specs.Bounded.{Proper};
 use crate::columns::Column;
 use crate::columns::bears_of;
 use crate::columns::bends_of;
@@ -133,9 +133,9 @@ pub fn ground_bears(soil: u32, strength: u32, pad: u32, n: u64) -> bool
 }
 
 // The row of eleven, from the column, wk, Mw, N, Nw and whether check 8 is due.
-// requires: judge shows the bounds; column_of that the column is sound.
+// requires: judge shows the bounds; column_of that the column is proper.
 pub fn verdicts_of(c: Column, j: Job, w: u64, m: u64, n: u64, nw: u64, exempt: bool) -> [u8; CHECKS]
-    requires { ⌜ Sound c × Bounds j × (w ≤ 17472) × (n ≤ 1543200) ⌝ }
+    requires { ⌜ Proper c × Bounds j × (w ≤ 17472) × (n ≤ 1543200) ⌝ }
     ensures { λ r. ⌜ r ≡ verdicts c j w m n nw exempt ⌝ }
 {
     let v1 = check1_of(j);

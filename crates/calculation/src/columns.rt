@@ -5,7 +5,7 @@ ghost use Rattle.basis.specs.Figure.{Is};
 ghost use Rattle.sheet.specs.Sheet.{Stands};
 ghost use Rattle.calculation.specs.Whole.{columnAt, bears, bends};
 ghost use Rattle.calculation.specs.Division.{limit7, limit8};
-ghost use Rattle.calculation.specs.Bounded.{Sound, IsColumn};
+ghost use Rattle.calculation.specs.Bounded.{Proper, IsColumn};
 use crate::constants::area_of;
 use crate::constants::modulus_of;
 use sheet::stability_factor;
@@ -35,7 +35,7 @@ pub fn column_of(sheet: &[u16], tube: u32, z: u64) -> Column
 
 // The greatest force that check 7 passes.
 pub(crate) fn limit7_of(c: Column) -> u64
-    requires { ⌜ Sound c ⌝ }
+    requires { ⌜ Proper c ⌝ }
     ensures { λ r. ⌜ Is r (limit7 c) 100245 ⌝ }
 {
     c.over * (205 * c.area) / c.under
@@ -43,7 +43,7 @@ pub(crate) fn limit7_of(c: Column) -> u64
 
 // The greatest force that check 8 passes beside a moment.
 pub(crate) fn limit8_of(c: Column, m: u64) -> u64
-    requires { ⌜ Sound c × (m ≤ 205 * c .modulus) ⌝ }
+    requires { ⌜ Proper c × (m ≤ 205 * c .modulus) ⌝ }
     ensures { λ r. ⌜ Is r (limit8 c m) 100245 ⌝ }
 {
     c.over * c.area * (205 * c.modulus - m) / (c.under * c.modulus)
@@ -52,7 +52,7 @@ pub(crate) fn limit8_of(c: Column, m: u64) -> u64
 // Check 7 of a force.
 // requires: column_of shows it.
 pub fn bears_of(c: Column, n: u64) -> bool
-    requires { ⌜ Sound c ⌝ }
+    requires { ⌜ Proper c ⌝ }
     ensures { λ r. ⌜ r ≡ bears c n ⌝ }
 {
     n <= limit7_of(c)
@@ -61,7 +61,7 @@ pub fn bears_of(c: Column, n: u64) -> bool
 // Check 8 of a force beside a moment.
 // requires: column_of shows it.
 pub fn bends_of(c: Column, n: u64, m: u64) -> bool
-    requires { ⌜ Sound c ⌝ }
+    requires { ⌜ Proper c ⌝ }
     ensures { λ r. ⌜ r ≡ bends c n m ⌝ }
 {
     if m <= 205 * c.modulus {

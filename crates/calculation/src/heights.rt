@@ -4,7 +4,7 @@ ghost use Prim.Native.Nat.{_≤_, _<_};
 ghost use Rattle.basis.specs.Figure.{Is};
 ghost use Rattle.calculation.specs.Whole.{heightCount, heights};
 ghost use Rattle.calculation.specs.Division.{countUpTo, count7, count8};
-ghost use Rattle.calculation.specs.Bounded.{WithinSixteen, Sound};
+ghost use Rattle.calculation.specs.Bounded.{WithinSixteen, Proper};
 use crate::columns::Column;
 use crate::columns::limit7_of;
 use crate::columns::limit8_of;
@@ -27,7 +27,7 @@ fn count_up_to(c: u64, k: u64, b: u64) -> u64
 }
 
 fn count7_of(c: Column, l: Load, weight: u64) -> u64
-    requires { ⌜ Sound c × WithinSixteen l × (0 < weight) × (weight ≤ 500) ⌝ }
+    requires { ⌜ Proper c × WithinSixteen l × (0 < weight) × (weight ≤ 500) ⌝ }
     ensures { λ r. ⌜ r ≡ count7 c l weight ⌝ }
 {
     count_up_to(
@@ -38,7 +38,7 @@ fn count7_of(c: Column, l: Load, weight: u64) -> u64
 }
 
 fn count8_of(c: Column, l: Load, weight: u64, m: u64) -> u64
-    requires { ⌜ Sound c × WithinSixteen l × (0 < weight) × (weight ≤ 500) ⌝ }
+    requires { ⌜ Proper c × WithinSixteen l × (0 < weight) × (weight ≤ 500) ⌝ }
     ensures { λ r. ⌜ r ≡ count8 c l weight m ⌝ }
 {
     if m <= 205 * c.modulus {
@@ -55,7 +55,7 @@ fn count8_of(c: Column, l: Load, weight: u64, m: u64) -> u64
 // At how many of the heights from 0 to 6,000 cm the pole checks pass, the load raised by a structure of that weight.
 // requires: judge shows it of an accepted job; nothing else asks for a weight above 0.
 pub fn height_count(c: Column, l: Load, weight: u32, m: u64, exempt: bool) -> u64
-    requires { ⌜ Sound c × WithinSixteen l × (0 < weight) × (weight ≤ 500) ⌝ }
+    requires { ⌜ Proper c × WithinSixteen l × (0 < weight) × (weight ≤ 500) ⌝ }
     ensures { λ r. ⌜ Is r (heightCount c l weight m exempt) 6001 ⌝ }
 {
     let weight = weight as u64;

@@ -108,5 +108,4 @@ bounds j h =
       lb-pos = le-trans (lit≤ tt) (lb-within (j .family) (j .lb) (f3 .0) .0);
       la-pos = le-trans (lit≤ tt) (within-le 60 200 (j .la) (f4 .0) .0);
       weight-pos = le-trans (lit≤ tt) (within-le 50 500 (j .weight) (f14 .0) .0);
-      step-least = within-le 60 200 (j .step) (f5 .0) .0;
     }

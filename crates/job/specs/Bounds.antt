@@ -1,4 +1,4 @@
--- What the ranges of an accepted job bound: what figures need to fit 64 bits, and reports to have a greatest length.
+-- What the ranges of an accepted job bound: what figures need to fit 64 bits, and reports to have a length that is enough.
 -- Assumes nothing.
 use Prim.Native.Nat.{_≤_, _<_}
 use Rattle.job.specs.declared.Job.{Job}
@@ -32,4 +32,3 @@ pub record Bounds (j : Job) : Type 0 where
   pub lb-pos : 0 < j .lb
   pub la-pos : 0 < j .la
   pub weight-pos : 0 < j .weight
-  pub step-least : 60 ≤ j .step

@@ -43,10 +43,10 @@ module _ (s : List ℕ) (h : Stands s) where
   unfolding entryStands
   entry-within k l = within-le 1 1000 (getD s k 0) (both-left (within 1 1000 (getD s k 0)) _ (entry-stands k l))
 
-  pub entry-pos : (k : ℕ) → k ≤ 250 → 0 < getD s k 0
+  entry-pos : (k : ℕ) → k ≤ 250 → 0 < getD s k 0
   entry-pos k l = entry-within k l .0
 
-  pub entry-most : (k : ℕ) → k ≤ 250 → getD s k 0 ≤ 1000
+  entry-most : (k : ℕ) → k ≤ 250 → getD s k 0 ≤ 1000
   entry-most k l = entry-within k l .1
 
   entry-falling : (k : ℕ) → k ≤ 250 → T ((eqb k 0 || leb (getD s k 0) (getD s (k - 1) 0)) && (not (eqb k 250) || leb 117 (getD s k 0)))

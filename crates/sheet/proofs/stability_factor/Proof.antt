@@ -1,41 +1,29 @@
--- `stability_factor` meets its contract, one law for each way out. Assumes nothing.
+-- `stability_factor` meets its contract. Assumes nothing.
 use mathlib.Core.Path.{_≡_}
 use mathlib.Core.List.{List}
-use Prim.Native.Nat.{ℕ, _*_, _≤_, _<_}
+use Prim.Native.Nat.{ℕ, _*_, _≤_}
 use native.Mathlib.Nat.{le-trans, mul-le-mul}
 use native.Mathlib.Omega.{arith}
-use lib.Dec.{lit<, lit≤}
-use lib.ListN.{getD}
+use lib.Dec.{leb, lit≤}
 use borrow.Author.Needs.{needs}
 use borrow.Author.Tests.{le-leb, lt-leb}
 use Rattle.basis.proofs.Fits.{fits-below}
+use Rattle.basis.proofs.Tests.{cond-below}
 use Rattle.sheet.specs.Sheet.{Stands}
 use Rattle.sheet.specs.StabilityFactor.{over, under, Reading}
-use Rattle.sheet.proofs.Falls.{sheet-long, entry-pos, entry-most}
+use Rattle.sheet.proofs.Falls.{sheet-long, stability-within}
 use Rattle.sheet.proofs.stability_factor.Statement.{statement}
 use Rattle.sheet.proofs.stability_factor.Tie as tie
 
-from-entry : (s : List ℕ) {z e : ℕ} → Stands s → z ≤ 250 → e ≡ getD s z 0 → Reading (record { over = e; under = 1000 }) s z
-unfolding over under
-from-entry s {z} h l f =
-    record {
-      over-is = simp (le-leb z 250 l) f;
-      over-pos = rw f (entry-pos s h z l);
-      under-is = simp (le-leb z 250 l);
-      under-most = lit≤ tt;
-      at-most-one = rw f (entry-most s h z l);
-    }
+under-most : (z : ℕ) → z ≤ 293 → under z ≤ 100000
+unfolding under
+under-most z l = cond-below (leb z 250) (lit≤ tt) (le-trans (mul-le-mul l l) (lit≤ tt))
 
-above-250 : (s : List ℕ) {z : ℕ} → 250 < z → z ≤ 293 → Reading (record { over = 7320; under = z * z }) s z
-unfolding over under
-above-250 s {z} l m =
-    record {
-      over-is = simp (lt-leb z 250 l);
-      over-pos = lit< tt;
-      under-is = simp (lt-leb z 250 l);
-      under-most = le-trans (mul-le-mul m m) (lit≤ tt);
-      at-most-one = le-trans {m = 251 * 251} (lit≤ tt) (mul-le-mul l l);
-    }
+-- its parts are those of the sheet, and with them it is above 0 and at most 1
+reading : (s : List ℕ) (z : ℕ) {o u : ℕ} → Stands s → z ≤ 293 → o ≡ over s z → u ≡ under z → Reading (record { over = o; under = u }) s z
+reading s z h l e f =
+    let w = stability-within s h z in
+    record { over-is = e; over-pos = rw e (w .0); under-is = f; under-most = rw f (under-most z l); at-most-one = rw (e, f) (w .1) }
 
 pub stability-factor-spec : {M : Type 1} → statement M
 stability-factor-spec =
@@ -45,6 +33,12 @@ stability-factor-spec =
     (λ c. omega (arith, sheet-long _ (c .before .before .before .pre .0)))  -- shared-slice-read-wide
     (λ c κs. search needs)  -- wide-requires
     (λ c. search needs)  -- cast-t9
-    (λ c. from-entry _ (c .before .before .before .before .pre .0) (c .before .before .if1 .taken) (c .wide .ensures))  -- returns
+    (λ c.
+    let p = c .before .before .before .before .pre in
+    let t = c .before .before .if1 .taken in
+    reading _ _ (p .0) (p .1) (unfold over in simp (le-leb _ _ t) (c .wide .ensures)) (unfold under in simp (le-leb _ _ t)))  -- returns
     (λ c. fits-below (293 * 293) tt (mul-le-mul (c .before .before .pre .1) (c .before .before .pre .1)))  -- mul-t10
-    (λ c. above-250 _ (c .if1 .left) (c .before .before .pre .1)))  -- returns-2
+    (λ c.
+    let p = c .before .before .pre in
+    let t = c .if1 .left in
+    reading _ _ (p .0) (p .1) (unfold over in simp (lt-leb _ _ t)) (unfold under in simp (lt-leb _ _ t))))  -- returns-2

@@ -11,4 +11,4 @@ column-of-spec =
     (λ c κs. search needs)  -- stability-factor-requires
     (λ c κs. search needs)  -- area-of-requires
     (λ c κs. search needs)  -- modulus-of-requires
-    (λ c. record { is = unfold columnAt in cc; sound = search needs }))  -- returns
+    (λ c. record { is = unfold columnAt in cc; proper = search needs }))  -- returns
