@@ -1,24 +1,17 @@
 -- A job of which nothing is refused has each field in its range.
 -- Assumes nothing.
-use mathlib.Core.Path.{_≡_}
 use mathlib.Core.Bool.{Bool, true, false, cond}
-use Prim.Native.Nat.{ℕ, _≤_, _<_}
+use Prim.Native.Nat.{ℕ, _≤_}
 use native.Mathlib.Nat.{le-trans}
-use native.Mathlib.Omega.{arith}
-use lib.Dec.{T, eqb, eqb→eq, leb, ltb, ltb→lt, lit<, lit≤}
+use lib.Dec.{T, eqb, eqb→eq, leb, lit≤}
 use Rattle.basis.specs.Range.{within}
 use Rattle.basis.proofs.Tests.{either-elim, within-le}
-use Rattle.basis.proofs.Refusals.{unless-pass}
 use Rattle.job.specs.declared.Job.{Job}
-use Rattle.job.specs.Ranges.{field, lbStands, heightStands, shieldStands, geometry, loads, wind, ground, outside}
-use Rattle.job.specs.Examine.{examination, Stands}
+use Rattle.job.specs.Ranges.{lbStands, heightStands, shieldStands, geometry, loads, wind, ground, ranges}
+use Rattle.job.specs.Examine.{Stands}
+use Rattle.job.specs.Rows.{Inside}
 use Rattle.job.specs.Bounds.{Bounds}
-
--- where no field is outside its range, this one stands, and so do the later ones
-passes : (place : ℕ) (b : Bool) (rest : ℕ) → T (ltb 0 place) → field place b rest ≡ 0 → T b × (rest ≡ 0)
-unfolding field
-passes place true rest t e = (tt, e)
-passes place false rest t e = let l : 0 < place = ltb→lt 0 place t in absurd (omega arith)
+use Rattle.job.proofs.Rows.{stands-sound}
 
 cond-elim : {A : Type 0} (b c d : Bool) → (T c → A) → (T d → A) → T (cond b c d) → A
 cond-elim true c d f g t = f t
@@ -47,65 +40,41 @@ shield-within enclosure shield =
     cond-elim (eqb enclosure 1) _ _ (within-le 1 2000 shield)
     (cond-elim (eqb enclosure 2) _ _ (wider 300 700 1 2000 shield tt tt) (wider 1 1000 1 2000 shield tt tt))
 
-none-outside : (j : Job) → Stands j → outside j ≡ 0
-unfolding Stands examination
-none-outside j h = eqb→eq (outside j) 0 (unless-pass (eqb (outside j) 0) _ _ (lit< tt) h .0)
+-- every field is in its range
+all-inside : (j : Job) → Stands j → (p : ℕ) → Inside j p
+all-inside j h = stands-sound j h .agrees .inside
 
 pub bounds : (j : Job) → Stands j → Bounds j
-unfolding outside geometry loads wind ground
+unfolding Inside ranges geometry loads wind ground
 bounds j h =
-    let f1 = passes 1 _ _ tt (none-outside j h) in
-    let f2 = passes 2 _ _ tt (f1 .1) in
-    let f3 = passes 3 _ _ tt (f2 .1) in
-    let f4 = passes 4 _ _ tt (f3 .1) in
-    let f5 = passes 5 _ _ tt (f4 .1) in
-    let f6 = passes 6 _ _ tt (f5 .1) in
-    let f7 = passes 7 _ _ tt (f6 .1) in
-    let f8 = passes 8 _ _ tt (f7 .1) in
-    let f9 = passes 9 _ _ tt (f8 .1) in
-    let f10 = passes 10 _ _ tt (f9 .1) in
-    let f11 = passes 11 _ _ tt (f10 .1) in
-    let f12 = passes 12 _ _ tt (f11 .1) in
-    let f13 = passes 13 _ _ tt (f12 .1) in
-    let f14 = passes 14 _ _ tt (f13 .1) in
-    let f15 = passes 15 _ _ tt (f14 .1) in
-    let f16 = passes 16 _ _ tt (f15 .1) in
-    let f17 = passes 17 _ _ tt (f16 .1) in
-    let f18 = passes 18 _ _ tt (f17 .1) in
-    let f19 = passes 19 _ _ tt (f18 .1) in
-    let f20 = passes 20 _ _ tt (f19 .1) in
-    let f21 = passes 21 _ _ tt (f20 .1) in
-    let f22 = passes 22 _ _ tt (f21 .1) in
-    let f23 = passes 23 _ _ tt (f22 .1) in
-    let f24 = passes 24 _ _ tt (f23 .1) in
-    let f25 = passes 25 _ _ tt (f24 .1) in
+    let i = all-inside j h in
     record {
-      family = within-le 1 2 (j .family) (f1 .0) .1;
-      tube = within-le 1 2 (j .tube) (f2 .0) .1;
-      lb = lb-within (j .family) (j .lb) (f3 .0) .1;
-      la = within-le 60 200 (j .la) (f4 .0) .1;
-      step = within-le 60 200 (j .step) (f5 .0) .1;
-      ties = within-le 2 3 (j .ties) (f6 .0) .1;
-      height = height-within (j .family) (j .height) (f7 .0) .1;
-      boards = within-le 1 3 (j .boards) (f8 .0) .1;
-      boarded = within-le 1 10 (j .boarded) (f9 .0) .1;
-      working = within-le 1 9 (j .working) (f10 .0) .1;
-      q = within-le 0 10000 (j .q) (f11 .0) .1;
-      total = within-le 0 30000 (j .total) (f12 .0) .1;
-      nets = within-le 0 5000 (j .nets) (f13 .0) .1;
-      weight = within-le 50 500 (j .weight) (f14 .0) .1;
-      wind = within-le 0 2000 (j .wind) (f15 .0) .1;
-      exposure = within-le 100 4000 (j .exposure) (f16 .0) .1;
-      enclosure = within-le 1 3 (j .enclosure) (f17 .0) .1;
-      shield = shield-within (j .enclosure) (j .shield) (f18 .0) .1;
-      wall = within-le 1 2 (j .wall) (f19 .0) .1;
-      thickness = within-le 0 2000 (j .thickness) (f20 .0) .1;
-      make = within-le 1 3 (j .make) (f21 .0) .1;
-      capacity = within-le 8000 100000 (j .capacity) (f22 .0) .1;
-      soil = within-le 1 5 (j .soil) (f23 .0) .1;
-      strength = within-le 10 2000 (j .strength) (f24 .0) .1;
-      pad = within-le 100 10000 (j .pad) (f25 .0) .1;
-      lb-pos = le-trans (lit≤ tt) (lb-within (j .family) (j .lb) (f3 .0) .0);
-      la-pos = le-trans (lit≤ tt) (within-le 60 200 (j .la) (f4 .0) .0);
-      weight-pos = le-trans (lit≤ tt) (within-le 50 500 (j .weight) (f14 .0) .0);
+      family = within-le 1 2 (j .family) (i 1) .1;
+      tube = within-le 1 2 (j .tube) (i 2) .1;
+      lb = lb-within (j .family) (j .lb) (i 3) .1;
+      la = within-le 60 200 (j .la) (i 4) .1;
+      step = within-le 60 200 (j .step) (i 5) .1;
+      ties = within-le 2 3 (j .ties) (i 6) .1;
+      height = height-within (j .family) (j .height) (i 7) .1;
+      boards = within-le 1 3 (j .boards) (i 8) .1;
+      boarded = within-le 1 10 (j .boarded) (i 9) .1;
+      working = within-le 1 9 (j .working) (i 10) .1;
+      q = within-le 0 10000 (j .q) (i 11) .1;
+      total = within-le 0 30000 (j .total) (i 12) .1;
+      nets = within-le 0 5000 (j .nets) (i 13) .1;
+      weight = within-le 50 500 (j .weight) (i 14) .1;
+      wind = within-le 0 2000 (j .wind) (i 15) .1;
+      exposure = within-le 100 4000 (j .exposure) (i 16) .1;
+      enclosure = within-le 1 3 (j .enclosure) (i 17) .1;
+      shield = shield-within (j .enclosure) (j .shield) (i 18) .1;
+      wall = within-le 1 2 (j .wall) (i 19) .1;
+      thickness = within-le 0 2000 (j .thickness) (i 20) .1;
+      make = within-le 1 3 (j .make) (i 21) .1;
+      capacity = within-le 8000 100000 (j .capacity) (i 22) .1;
+      soil = within-le 1 5 (j .soil) (i 23) .1;
+      strength = within-le 10 2000 (j .strength) (i 24) .1;
+      pad = within-le 100 10000 (j .pad) (i 25) .1;
+      lb-pos = le-trans (lit≤ tt) (lb-within (j .family) (j .lb) (i 3) .0);
+      la-pos = le-trans (lit≤ tt) (within-le 60 200 (j .la) (i 4) .0);
+      weight-pos = le-trans (lit≤ tt) (within-le 50 500 (j .weight) (i 14) .0);
     }

@@ -1,3 +1,5 @@
 pub mod Chain
 pub mod Numbers
+pub mod Lowest
+pub mod Rows
 pub mod Bounds

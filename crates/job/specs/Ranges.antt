@@ -1,15 +1,11 @@
 -- Document 01, "The job": each field with its range, in its order.
 -- Assumes nothing.
-use Prim.Native.Nat.{ℕ}
+use Prim.Native.Nat.{ℕ, suc}
 use mathlib.Core.Bool.{Bool, true, false, _||_, cond}
+use mathlib.Core.List.{List, [], _∷_, _++_}
 use lib.Dec.{eqb}
 use Rattle.basis.specs.Range.{within}
 use Rattle.job.specs.declared.Job.{Job}
-
--- the rest where the field stands, else its place
-unfoldable pub field : ℕ → Bool → ℕ → ℕ
-field place true rest = rest
-field place false rest = place
 
 -- 3: 105, 130 or 155 (double); 60 to 150 (single)
 unfoldable pub lbStands : ℕ → ℕ → Bool
@@ -25,46 +21,64 @@ shieldStands enclosure shield =
     cond (eqb enclosure 1) (within 1 2000 shield) (cond (eqb enclosure 2) (within 300 700 shield) (within 1 1000 shield))
 
 -- 1 to 7
-unfoldable pub geometry : Job → ℕ → ℕ
-geometry j rest =
-    field 1 (within 1 2 (j .family))
-    (field 2 (within 1 2 (j .tube))
-    (field 3 (lbStands (j .family) (j .lb))
-    (field 4 (within 60 200 (j .la))
-    (field 5 (within 60 200 (j .step))
-    (field 6 (within 2 3 (j .ties))
-    (field 7 (heightStands (j .family) (j .height)) rest))))))
+unfoldable pub geometry : Job → List Bool
+geometry j =
+    within 1 2 (j .family)
+    ∷ within 1 2 (j .tube)
+    ∷ lbStands (j .family) (j .lb)
+    ∷ within 60 200 (j .la)
+    ∷ within 60 200 (j .step)
+    ∷ within 2 3 (j .ties)
+    ∷ heightStands (j .family) (j .height)
+    ∷ []
 
 -- 8 to 14
-unfoldable pub loads : Job → ℕ → ℕ
-loads j rest =
-    field 8 (within 1 3 (j .boards))
-    (field 9 (within 1 10 (j .boarded))
-    (field 10 (within 1 9 (j .working))
-    (field 11 (within 0 10000 (j .q))
-    (field 12 (within 0 30000 (j .total))
-    (field 13 (within 0 5000 (j .nets))
-    (field 14 (within 50 500 (j .weight)) rest))))))
+unfoldable pub loads : Job → List Bool
+loads j =
+    within 1 3 (j .boards)
+    ∷ within 1 10 (j .boarded)
+    ∷ within 1 9 (j .working)
+    ∷ within 0 10000 (j .q)
+    ∷ within 0 30000 (j .total)
+    ∷ within 0 5000 (j .nets)
+    ∷ within 50 500 (j .weight)
+    ∷ []
 
 -- 15 to 19
-unfoldable pub wind : Job → ℕ → ℕ
-wind j rest =
-    field 15 (within 0 2000 (j .wind))
-    (field 16 (within 100 4000 (j .exposure))
-    (field 17 (within 1 3 (j .enclosure))
-    (field 18 (shieldStands (j .enclosure) (j .shield))
-    (field 19 (within 1 2 (j .wall)) rest))))
+unfoldable pub wind : Job → List Bool
+wind j =
+    within 0 2000 (j .wind)
+    ∷ within 100 4000 (j .exposure)
+    ∷ within 1 3 (j .enclosure)
+    ∷ shieldStands (j .enclosure) (j .shield)
+    ∷ within 1 2 (j .wall)
+    ∷ []
 
 -- 20 to 25
-unfoldable pub ground : Job → ℕ → ℕ
-ground j rest =
-    field 20 (within 0 2000 (j .thickness))
-    (field 21 (within 1 3 (j .make))
-    (field 22 (within 8000 100000 (j .capacity))
-    (field 23 (within 1 5 (j .soil))
-    (field 24 (within 10 2000 (j .strength))
-    (field 25 (within 100 10000 (j .pad)) rest)))))
+unfoldable pub ground : Job → List Bool
+ground j =
+    within 0 2000 (j .thickness)
+    ∷ within 1 3 (j .make)
+    ∷ within 8000 100000 (j .capacity)
+    ∷ within 1 5 (j .soil)
+    ∷ within 10 2000 (j .strength)
+    ∷ within 100 10000 (j .pad)
+    ∷ []
+
+-- whether each field stands, in their order
+unfoldable pub ranges : Job → List Bool
+ranges j = geometry j ++ (loads j ++ (wind j ++ ground j))
+
+-- the rest where the field stands, else its place
+unfoldable pub field : ℕ → Bool → ℕ → ℕ
+field place true rest = rest
+field place false rest = place
+
+-- the place of the first test that fails, the places counted from the first number on; else the rest
+unfoldable pub lowest : ℕ → List Bool → ℕ → ℕ
+lowest place [] rest = rest
+lowest place (test ∷ tests) rest = field place test (lowest (suc place) tests rest)
 
 -- the lowest field outside its range; 0 where there is none
 unfoldable pub outside : Job → ℕ
-outside j = geometry j (loads j (wind j (ground j 0)))
+outside j = lowest 1 (ranges j) 0

@@ -1,7 +1,7 @@
 // A scaffold job: its 25 numbers by name, and what about them is refused (refusals 3, 4 and 5).
 ghost use mathlib.Core.Path.{_≡_};
 ghost use Rattle.basis.specs.Range.{within};
-ghost use Rattle.job.specs.Ranges.{field, lbStands, heightStands, shieldStands, geometry, loads, wind, ground, outside};
+ghost use Rattle.job.specs.Ranges.{lbStands, heightStands, shieldStands, geometry, loads, wind, ground, field, lowest, outside};
 ghost use Rattle.job.specs.Job.{jobOf, numbers};
 ghost use Rattle.job.specs.Examine.{examination};
 use basis::CONTRADICTION;
@@ -184,7 +184,7 @@ fn shield_stands(enclosure: u32, shield: u32) -> bool
 
 // The lowest of fields 1 to 7 outside its range, else the rest; and so for the later fields.
 fn geometry_of(j: Job, rest: u64) -> u64
-    ensures { λ r. ⌜ r ≡ geometry j rest ⌝ }
+    ensures { λ r. ⌜ r ≡ lowest 1 (geometry j) rest ⌝ }
 {
     let p7 = field_of(7, height_stands(j.family, j.height), rest);
     let p6 = range_of(6, 2, 3, j.ties, p7);
@@ -196,7 +196,7 @@ fn geometry_of(j: Job, rest: u64) -> u64
 }
 
 fn loads_of(j: Job, rest: u64) -> u64
-    ensures { λ r. ⌜ r ≡ loads j rest ⌝ }
+    ensures { λ r. ⌜ r ≡ lowest 8 (loads j) rest ⌝ }
 {
     let p14 = range_of(14, 50, 500, j.weight, rest);
     let p13 = range_of(13, 0, 5000, j.nets, p14);
@@ -208,7 +208,7 @@ fn loads_of(j: Job, rest: u64) -> u64
 }
 
 fn wind_of(j: Job, rest: u64) -> u64
-    ensures { λ r. ⌜ r ≡ wind j rest ⌝ }
+    ensures { λ r. ⌜ r ≡ lowest 15 (wind j) rest ⌝ }
 {
     let p19 = range_of(19, 1, 2, j.wall, rest);
     let p18 = field_of(18, shield_stands(j.enclosure, j.shield), p19);
@@ -218,7 +218,7 @@ fn wind_of(j: Job, rest: u64) -> u64
 }
 
 fn ground_of(j: Job, rest: u64) -> u64
-    ensures { λ r. ⌜ r ≡ ground j rest ⌝ }
+    ensures { λ r. ⌜ r ≡ lowest 20 (ground j) rest ⌝ }
 {
     let p25 = range_of(25, 100, 10000, j.pad, rest);
     let p24 = range_of(24, 10, 2000, j.strength, p25);

@@ -1,7 +1,7 @@
 -- `geometry_of` meets its contract. Assumes nothing.
 use mathlib.Core.Path.{refl}
 use borrow.Author.Needs.{needs}
-use Rattle.job.specs.Ranges.{geometry}
+use Rattle.job.specs.Ranges.{geometry, lowest}
 use Rattle.job.proofs.Chain.{link}
 use Rattle.job.proofs.geometry_of.Statement.{statement}
 use Rattle.job.proofs.geometry_of.Tie as tie
@@ -20,7 +20,7 @@ geometry-of-spec =
     (λ c κs. search needs)  -- range-of-requires-4
     (λ c κs. search needs)  -- range-of-requires-5
     (λ c.
-    unfold geometry in
+    unfold geometry lowest in
     link 1 (c .range-of5 .ensures) refl
     (link 2 (c .before .range-of4 .ensures) refl
     (link 3 (c .before .before .field-of2 .ensures) (c .before .before .before .lb-stands .ensures)

@@ -1,7 +1,7 @@
 -- `ground_of` meets its contract. Assumes nothing.
 use mathlib.Core.Path.{refl}
 use borrow.Author.Needs.{needs}
-use Rattle.job.specs.Ranges.{ground}
+use Rattle.job.specs.Ranges.{ground, lowest}
 use Rattle.job.proofs.Chain.{link}
 use Rattle.job.proofs.ground_of.Statement.{statement}
 use Rattle.job.proofs.ground_of.Tie as tie
@@ -17,7 +17,7 @@ ground-of-spec =
     (λ c κs. search needs)  -- range-of-requires-5
     (λ c κs. search needs)  -- range-of-requires-6
     (λ c.
-    unfold ground in
+    unfold ground lowest in
     link 20 (c .range-of6 .ensures) refl
     (link 21 (c .before .range-of5 .ensures) refl
     (link 22 (c .before .before .range-of4 .ensures) refl

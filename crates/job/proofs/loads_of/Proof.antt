@@ -1,7 +1,7 @@
 -- `loads_of` meets its contract. Assumes nothing.
 use mathlib.Core.Path.{refl}
 use borrow.Author.Needs.{needs}
-use Rattle.job.specs.Ranges.{loads}
+use Rattle.job.specs.Ranges.{loads, lowest}
 use Rattle.job.proofs.Chain.{link}
 use Rattle.job.proofs.loads_of.Statement.{statement}
 use Rattle.job.proofs.loads_of.Tie as tie
@@ -18,7 +18,7 @@ loads-of-spec =
     (λ c κs. search needs)  -- range-of-requires-6
     (λ c κs. search needs)  -- range-of-requires-7
     (λ c.
-    unfold loads in
+    unfold loads lowest in
     link 8 (c .range-of7 .ensures) refl
     (link 9 (c .before .range-of6 .ensures) refl
     (link 10 (c .before .before .range-of5 .ensures) refl

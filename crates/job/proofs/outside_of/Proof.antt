@@ -1,6 +1,6 @@
 -- `outside_of` meets its contract. Assumes nothing.
 use borrow.Author.Needs.{needs}
-use Rattle.job.specs.Ranges.{outside}
+use Rattle.job.proofs.Chain.{parts}
 use Rattle.job.proofs.outside_of.Statement.{statement}
 use Rattle.job.proofs.outside_of.Tie as tie
 
@@ -12,4 +12,4 @@ outside-of-spec =
     (λ c κs. search needs)  -- wind-of-requires
     (λ c κs. search needs)  -- loads-of-requires
     (λ c κs. search needs)  -- geometry-of-requires
-    (λ c. unfold outside in cc))  -- returns
+    (λ c. cc (parts _)))  -- returns

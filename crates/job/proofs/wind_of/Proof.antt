@@ -1,7 +1,7 @@
 -- `wind_of` meets its contract. Assumes nothing.
 use mathlib.Core.Path.{refl}
 use borrow.Author.Needs.{needs}
-use Rattle.job.specs.Ranges.{wind}
+use Rattle.job.specs.Ranges.{wind, lowest}
 use Rattle.job.proofs.Chain.{link}
 use Rattle.job.proofs.wind_of.Statement.{statement}
 use Rattle.job.proofs.wind_of.Tie as tie
@@ -17,7 +17,7 @@ wind-of-spec =
     (λ c κs. search needs)  -- range-of-requires-3
     (λ c κs. search needs)  -- range-of-requires-4
     (λ c.
-    unfold wind in
+    unfold wind lowest in
     link 15 (c .range-of4 .ensures) refl
     (link 16 (c .before .range-of3 .ensures) refl
     (link 17 (c .before .before .range-of2 .ensures) refl

@@ -1,0 +1,48 @@
+-- Laws of the lowest place at which a test fails.
+-- Assumes nothing.
+use mathlib.Core.Path.{_≡_, _∙_, refl}
+use mathlib.Core.Bool.{Bool, true, false}
+use mathlib.Core.List.{List, [], _∷_}
+use mathlib.Core.Logic.{_⊎_, inl, inr, ⊎-elim}
+use Prim.Native.Nat.{ℕ, zero, suc, _+_, _<_}
+use native.Mathlib.Omega.{arith}
+use lib.Dec.{T}
+use lib.ListN.{getD}
+use Rattle.basis.specs.Rows.{First}
+use Rattle.job.specs.Ranges.{field, lowest}
+
+-- the test at place i fails; there is none after the last
+abbrev pub Fails : List Bool → ℕ → Type 0
+Fails tests i = T (getD tests i true) → ⊥
+
+pub lowest-all : (place rest : ℕ) (tests : List Bool) → ((i : ℕ) → T (getD tests i true)) → lowest place tests rest ≡ rest
+unfolding lowest field
+lowest-all place rest [] h = refl
+lowest-all place rest (true ∷ tests) h = lowest-all (suc place) rest tests (λ i. h (suc i))
+lowest-all place rest (false ∷ tests) h = absurd (h 0)
+
+pub lowest-first : (place rest k : ℕ) (tests : List Bool) → First (Fails tests) k → lowest place tests rest ≡ place + k
+unfolding lowest field
+lowest-first place rest k [] f = absurd (f .here tt)
+lowest-first place rest zero (true ∷ tests) f = absurd (f .here tt)
+lowest-first place rest (suc k) (true ∷ tests) f =
+    lowest-first (suc place) rest k tests (record { here = f .here; before = λ i l. f .before (suc i) (omega arith) }) ∙ omega arith
+lowest-first place rest zero (false ∷ tests) f = omega arith
+lowest-first place rest (suc k) (false ∷ tests) f = absurd (f .before 0 (omega arith) (λ t. t))
+
+-- no test fails, or there is a first that does
+pub lowest-every : (tests : List Bool) → ((i : ℕ) → T (getD tests i true)) ⊎ ((k : ℕ) × First (Fails tests) k)
+lowest-every [] = inl (λ i. tt)
+lowest-every (true ∷ tests) = ⊎-elim (λ h. inl (all h)) (λ f. inr (suc (f .0), later (f .0) (f .1))) (lowest-every tests)
+  where
+    all : ((i : ℕ) → T (getD tests i true)) → (i : ℕ) → T (getD (true ∷ tests) i true)
+    all h zero = tt
+    all h (suc i) = h i
+
+    none : (k : ℕ) → First (Fails tests) k → (i : ℕ) → i < suc k → Fails (true ∷ tests) i → ⊥
+    none k f zero l t = t tt
+    none k f (suc i) l t = f .before i (omega arith) t
+
+    later : (k : ℕ) → First (Fails tests) k → First (Fails (true ∷ tests)) (suc k)
+    later k f = record { here = f .here; before = none k f }
+lowest-every (false ∷ tests) = inr (0, record { here = λ t. t; before = λ i l. absurd (omega arith) })

@@ -1,0 +1,97 @@
+-- What is refused of a job is what the table says: row by row, and where none applies.
+-- Assumes nothing.
+use mathlib.Core.Path.{_≡_, _∙_, refl, ap}
+use mathlib.Core.Bool.{true}
+use mathlib.Core.List.{_∷_}
+use mathlib.Core.Logic.{_⊎_, inl, inr, ⊎-elim}
+use Prim.Native.Nat.{ℕ, zero, suc, _<_}
+use native.Mathlib.Nat.{zero-add}
+use native.Mathlib.Omega.{arith}
+use lib.Dec.{eqb, leb, ltb, lit<}
+use borrow.Author.Tests.{ltb-true, ltb-false, leb-true, leb-false, eqb-true, eqb-false, lt-ltb, le-ltb, le-leb, lt-leb, eq-eqb, ne-eqb}
+use Rattle.basis.specs.Refusal.{number, nothing, unless}
+use Rattle.basis.specs.Rows.{First, Some, Follows}
+use Rattle.basis.proofs.Tests.{cases, within-le}
+use Rattle.job.specs.declared.Job.{Job}
+use Rattle.job.specs.Ranges.{geometry, ranges, field, lowest, outside}
+use Rattle.job.specs.Examine.{examination, Stands}
+use Rattle.job.specs.Rows.{Inside, Outside, Agrees, Row, Sound, Told}
+use Rattle.job.proofs.Lowest.{lowest-all, lowest-first, lowest-every}
+
+module _ (j : Job) where
+  none-outside : ((p : ℕ) → Inside j p) → outside j ≡ 0
+  unfolding Inside outside
+  none-outside h = lowest-all 1 0 (ranges j) (λ i. h (suc i))
+
+  outside-is : (p : ℕ) → First (Outside j) p → outside j ≡ p
+  unfolding Inside Outside outside lowest field
+  outside-is p f = lowest-first 0 0 p (true ∷ ranges j) f ∙ zero-add p
+
+  outside-pos : (p : ℕ) → First (Outside j) p → 0 < p
+  unfolding Inside Outside
+  outside-pos zero f = absurd (f .here tt)
+  outside-pos (suc p) f = omega arith
+
+  -- a family other than 1 is 2
+  single : Inside j 1 → (j .family ≡ 1 → ⊥) → j .family ≡ 2
+  unfolding Inside ranges geometry
+  single i h = let w = within-le 1 2 (j .family) i in omega (arith, w .0, w .1)
+
+  row-is : (n p : ℕ) → Row j n p → (0 < n) × (examination j ≡ record { number = n; place = p })
+  unfolding examination unless
+  row-is n p (Row.outside q f) = let e = outside-is q f in (lit< tt, rw (ne-eqb (outside j) 0 (λ z. omega (arith, outside-pos q f)), e))
+  row-is n p (Row.layers i l) = (lit< tt, rw (none-outside i, lt-leb (j .working) (j .boarded) l))
+  row-is n p (Row.live i l m) = (lit< tt, rw (none-outside i, le-leb (j .working) (j .boarded) l, lt-leb _ _ m))
+  row-is n p (Row.thin a f l) = (lit< tt, rw (none-outside (a .inside), le-leb _ _ (a .layers), le-leb _ _ (a .live), ne-eqb (j .family) 1 (λ z. omega arith), le-ltb 180 (j .thickness) l))
+  row-is n p (Row.weak a f l m) = (lit< tt, rw (none-outside (a .inside), le-leb _ _ (a .layers), le-leb _ _ (a .live), ne-eqb (j .family) 1 (λ z. omega arith), lt-ltb 180 (j .thickness) l, ne-eqb (j .make) 1 m))
+
+  none-is : Sound j → examination j ≡ nothing
+  unfolding examination unless
+  none-is s =
+      let a = s .agrees in
+      rw (none-outside (a .inside), le-leb _ _ (a .layers), le-leb _ _ (a .live))
+      (cases (eqb (j .family) 1) (λ t. rw t refl)
+      (λ t. let w = s .wall (single (a .inside 1) (eqb-false (j .family) 1 t)) in rw (t, lt-ltb 180 (j .thickness) (w .0), eq-eqb (j .make) 1 (w .1)) refl))
+
+  -- by the facts of the table, in their order
+  every-is : Sound j ⊎ Some (Row j)
+  unfolding Inside Outside
+  every-is = ⊎-elim inside (λ f. inr (3, (f .0, Row.outside (f .0) (f .1)))) (lowest-every (true ∷ ranges j))
+    where
+      walls : Agrees j → (j .family ≡ 1 → ⊥) → Sound j ⊎ Some (Row j)
+      walls a f =
+          let s = single (a .inside 1) f in
+          cases (ltb 180 (j .thickness))
+          (λ t. cases (eqb (j .make) 1)
+          (λ m. inl (record { agrees = a; wall = λ z. (ltb-true 180 (j .thickness) t, eqb-true (j .make) 1 m) }))
+          (λ m. inr (5, (21, Row.weak a s (ltb-true 180 (j .thickness) t) (eqb-false (j .make) 1 m)))))
+          (λ t. inr (5, (20, Row.thin a s (ltb-false 180 (j .thickness) t))))
+
+      agreeing : Agrees j → Sound j ⊎ Some (Row j)
+      agreeing a =
+          cases (eqb (j .family) 1)
+          (λ t. inl (record { agrees = a; wall = λ z. let e = eqb-true (j .family) 1 t in absurd (omega arith) }))
+          (λ t. walls a (eqb-false (j .family) 1 t))
+
+      inside : ((p : ℕ) → Inside j p) → Sound j ⊎ Some (Row j)
+      inside i =
+          cases (leb (j .working) (j .boarded))
+          (λ t. cases (leb (j .q) (j .total))
+          (λ u. agreeing (record { inside = i; layers = leb-true (j .working) (j .boarded) t; live = leb-true (j .q) (j .total) u }))
+          (λ u. inr (4, (12, Row.live i (leb-true (j .working) (j .boarded) t) (leb-false (j .q) (j .total) u)))))
+          (λ t. inr (4, (10, Row.layers i (leb-false (j .working) (j .boarded) t))))
+
+  follows : Follows (examination j) (Row j) (Sound j)
+  follows = record { row = row-is; none = none-is; every = every-is }
+
+-- a job of which nothing is refused is one to which no row applies, and the other way round
+pub stands-sound : (j : Job) → Stands j → Sound j
+unfolding Stands
+stands-sound j h = ⊎-elim (λ s. s) (λ r. let e = row-is j _ _ (r .1 .1) in absurd (omega (arith, e .0, ap number (e .1)))) (every-is j)
+
+pub sound-stands : (j : Job) → Sound j → Stands j
+unfolding Stands
+sound-stands j s = ap number (none-is j s)
+
+pub told : Told
+told = record { told = follows }
