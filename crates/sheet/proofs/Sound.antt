@@ -1,20 +1,20 @@
 -- Of a sheet that falls from at most 1,000 to at least 117 nothing is refused.
 -- Assumes nothing.
-use mathlib.Core.Bool.{not, _&&_, _||_}
-use mathlib.Core.Path.{_≡_, refl}
+use mathlib.Core.Bool.{_&&_}
+use mathlib.Core.Path.{_≡_}
 use mathlib.Core.Logic.{_⊎_, inl, inr}
 use mathlib.Core.List.{List}
 use Prim.Native.Nat.{ℕ, zero, suc, _-_, _≤_, _<_}
-use native.Mathlib.Nat.{le-trans, eq-or-lt-of-le, zero-add}
+use native.Mathlib.Nat.{le-trans, eq-or-lt-of-le}
 use native.Mathlib.Omega.{arith}
-use lib.Dec.{T, leb, eqb, leb→le, le→leb, lit≤}
+use lib.Dec.{T, leb, leb→le, lit≤}
 use lib.ListN.{length, getD}
-use Rattle.basis.specs.Range.{within}
-use Rattle.basis.specs.Refusal.{nothing, unless}
-use Rattle.basis.proofs.Tests.{both-left, both-right, both-make, either-right}
-use Rattle.basis.proofs.Searches.{firstFail-never}
-use Rattle.sheet.specs.Sheet.{entryStands, fault, examination}
+use Rattle.basis.specs.Refusal.{nothing}
+use Rattle.basis.proofs.Tests.{both-left, both-right}
+use Rattle.sheet.specs.Sheet.{examination}
+use Rattle.sheet.specs.Rows.{Faulty}
 use Rattle.sheet.specs.Pass.{falling, sound}
+use Rattle.sheet.proofs.Rows.{told}
 use Rattle.sheet.proofs.Falls.{falls-from}
 
 falling-at : (s : List ℕ) (n : ℕ) → T (falling s n) → (k : ℕ) → suc k ≤ n → getD s (suc k) 0 ≤ getD s k 0
@@ -47,23 +47,11 @@ module _ (s : List ℕ) (h : T (sound s)) where
   least : (k : ℕ) → k ≤ 250 → 117 ≤ getD s k 0
   least k l = le-trans ends (falls-from s 250 next l (lit≤ tt))
 
-  before : (k : ℕ) → k ≤ 250 → T (eqb k 0 || leb (getD s k 0) (getD s (k - 1) 0))
-  before zero l = tt
-  before (suc k) l = let e : suc k - 1 ≡ k = omega arith in either-right (eqb (suc k) 0) _ (rw e (le→leb (getD s (suc k) 0) (getD s k 0) (next k l)))
-
-  each : (k : ℕ) → k ≤ 250 → T (entryStands s k)
-  unfolding entryStands
-  each k l =
-      let e = getD s k 0 in
-      both-make (within 1 1000 e) ((eqb k 0 || leb e (getD s (k - 1) 0)) && (not (eqb k 250) || leb 117 e))
-      (both-make (leb 1 e) (leb e 1000) (le→leb 1 e (omega (arith, least k l))) (le→leb e 1000 (most k l)))
-      (both-make (eqb k 0 || leb e (getD s (k - 1) 0)) (not (eqb k 250) || leb 117 e) (before k l)
-      (either-right (not (eqb k 250)) (leb 117 e) (le→leb 117 e (least k l))))
-
-  sound-stands : fault s ≡ 251
-  unfolding fault
-  sound-stands = firstFail-never (entryStands s) 251 0 (λ k l. rw zero-add (each k (omega arith)))
+  no-fault : (k : ℕ) → k ≤ 250 → Faulty s k → ⊥
+  no-fault k l (Faulty.zero e) = omega (arith, least k l)
+  no-fault k l (Faulty.great u) = omega (arith, most k l)
+  no-fault k l (Faulty.rises p u) = let e : suc (k - 1) ≡ k = omega arith in omega (arith, rw e at (next (k - 1) (omega arith)))
+  no-fault k l (Faulty.low e u) = omega (arith, least k l)
 
   pub sound-unrefused : length s ≡ 251 → examination s ≡ nothing
-  unfolding examination unless
-  sound-unrefused l = rw (l, sound-stands) refl
+  sound-unrefused l = told .told s .none (record { long = l; entries = no-fault })

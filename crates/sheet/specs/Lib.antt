@@ -1,4 +1,5 @@
 pub mod Sheet
+pub mod Rows
 pub mod Pass
 pub mod StabilityFactor
 pub mod Bytes
