@@ -3,7 +3,7 @@
 use Prim.Native.Nat.{ℕ, zero, suc, _+_}
 use mathlib.Core.Path.{_≡_, refl, ap}
 use mathlib.Core.List.{List, [], _∷_, _++_, append-assoc}
-use native.Mathlib.Nat.{add-zero, add-assoc}
+use native.Mathlib.Nat.{add-zero, zero-add, add-assoc}
 use native.Mathlib.Omega.{arith}
 use lib.ListN.{length, drop, length-append, length-replicate, take-append-drop}
 use lib.Seq.{drop-append-seam, getD-drop}
@@ -11,18 +11,24 @@ use Rattle.basis.specs.Refusal.{number}
 use Rattle.groups.specs.Encode.{encode, encodeAll}
 use Rattle.groups.specs.Decode.{Bytes, decode}
 use Rattle.groups.specs.Numbers.{extra, damage, values}
+use Rattle.groups.specs.Rows.{Narrow}
 use Rattle.groups.proofs.Decode.{decoded}
 use Rattle.groups.proofs.Numbers.{number-back, number-read}
 use Rattle.groups.proofs.Reading.{damage-next, values-next, damage-here, values-here}
-use Rattle.groups.proofs.Sizes.{Narrow}
 
--- the bytes of some numbers, read back: only what follows them can be refused
+-- the bytes of some numbers, read back: what is refused of those and k more is refused of the k after them
+pub damage-after : (ns : List ℕ) (k at : ℕ) (rest : List ℕ) → Narrow ns → damage (length ns + k) at (encodeAll ns ++ rest) ≡ damage k (at + length (encodeAll ns)) rest
+unfolding encodeAll
+damage-after [] k at rest w = rw (zero-add, add-zero)
+damage-after (n ∷ ns) k at rest w =
+    let s : suc (length ns) + k ≡ suc (length ns + k) = omega arith in
+    rw (s, append-assoc, length-append, ← add-assoc, damage-next (length ns + k) at n (length (encode n)) (encode n ++ (encodeAll ns ++ rest)) (number-back n _ (w .0)), drop-append-seam)
+    (damage-after ns k (at + length (encode n)) rest (w .1))
+
+-- and of those alone, of what follows them
 pub damage-back : (ns : List ℕ) (at : ℕ) (rest : List ℕ) → Narrow ns → damage (length ns) at (encodeAll ns ++ rest) ≡ extra (at + length (encodeAll ns)) rest
-unfolding encodeAll damage
-damage-back [] at rest w = rw add-zero
-damage-back (n ∷ ns) at rest w =
-    rw (append-assoc, length-append, ← add-assoc, damage-next (length ns) at n (length (encode n)) (encode n ++ (encodeAll ns ++ rest)) (number-back n _ (w .0)), drop-append-seam)
-    (damage-back ns (at + length (encode n)) rest (w .1))
+unfolding damage
+damage-back ns at rest w = rw add-zero at (damage-after ns 0 at rest w)
 
 pub values-back : (ns rest : List ℕ) → Narrow ns → values (length ns) (encodeAll ns ++ rest) ≡ ns
 unfolding encodeAll values

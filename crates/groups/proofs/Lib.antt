@@ -7,4 +7,6 @@ pub mod Sizes
 pub mod Reading
 pub mod Files
 pub mod Places
+pub mod Damaged
+pub mod Rows
 pub mod Beginning

@@ -53,7 +53,7 @@ record Read (f v k : ℕ) (bs : List ℕ) : Type 0 where
   same : take k bs ≡ groups f v
   above : 0 < v
 
-differ : {v k : ℕ} {A : Type 0} → Malformed ≡ Number v k → A
+pub differ : {v k : ℕ} {A : Type 0} → Malformed ≡ Number v k → A
 differ e = let z : _≡_ {A = ℕ} 0 1 = cc in absurd (omega arith)
 
 one-group : (f b v k : ℕ) (bs : List ℕ) → b < 128 → Number b 1 ≡ Number v k → take k (b ∷ bs) ≡ groups f v

@@ -1,6 +1,6 @@
--- How many bytes numbers of known sizes take, and numbers of 32 bits.
+-- How many bytes numbers of known sizes take.
 -- Assumes nothing.
-use Prim.Native.Nat.{ℕ, suc, _+_, _^_, _≤_, _<_}
+use Prim.Native.Nat.{ℕ, suc, _+_, _≤_, _<_}
 use mathlib.Core.List.{List, [], _∷_}
 use native.Mathlib.Omega.{arith}
 use lib.ListN.{length, length-append}
@@ -25,8 +25,3 @@ sized-length [] [] s = omega arith
 sized-length [] (n ∷ ns) s = absurd s
 sized-length (f ∷ fs) [] s = absurd s
 sized-length (f ∷ fs) (n ∷ ns) s = simp length-append (omega (arith, encode-short f n (s .0), sized-length fs ns (s .1)))
-
--- each number is of 32 bits
-abbrev pub Narrow : List ℕ → Type 0
-Narrow [] = Unit
-Narrow (n ∷ ns) = (n < 2 ^ 32) × Narrow ns

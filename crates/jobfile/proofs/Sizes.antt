@@ -8,8 +8,9 @@ use Rattle.job.specs.declared.Job.{Job}
 use Rattle.job.specs.Job.{numbers}
 use Rattle.job.specs.Examine.{Stands}
 use Rattle.job.proofs.Bounds.{bounds}
+use Rattle.groups.specs.Rows.{Narrow}
 use Rattle.groups.proofs.Encode.{cap}
-use Rattle.groups.proofs.Sizes.{Sized, sized-length, Narrow}
+use Rattle.groups.proofs.Sizes.{Sized, sized-length}
 use Rattle.jobfile.specs.Write.{fileOf, greatestLength}
 
 -- how many groups stand before the last of each number at most, in their order

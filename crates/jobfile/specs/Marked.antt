@@ -9,7 +9,7 @@ use Rattle.basis.specs.Writing.{roomRefusal, writtenOr, writtenValues}
 use Rattle.job.specs.declared.Job.{Job}
 use Rattle.job.specs.Job.{jobOf, numbers}
 use Rattle.job.specs.JobJ.{numbersJ}
-use Rattle.job.specs.Ranges.{field, lbStands, heightStands, shieldStands, geometry, loads, wind, ground, outside}
+use Rattle.job.specs.Ranges.{lbStands, heightStands, shieldStands, geometry, loads, wind, ground, ranges, field, lowest, outside}
 use Rattle.job.specs.Examine.{examination}
 use Rattle.groups.specs.Encode.{groups, encode, encodeAll}
 use Rattle.groups.specs.Decode.{lastGroup, extend, laterGroups, limit, decode}
@@ -41,5 +41,5 @@ rows =
     ∷ []
 
 pub marked : Hold rows
-unfolding Hold rows numbersJ longest encode groups jobIn readRefusal damage values extra decode laterGroups lastGroup extend limit fileWritten writtenOr writeRefusal roomRefusal fileOf encodeAll jobOf numbers examination outside geometry loads wind ground field lbStands heightStands shieldStands unless first
+unfolding Hold rows numbersJ longest encode groups jobIn readRefusal damage values extra decode laterGroups lastGroup extend limit fileWritten writtenOr writeRefusal roomRefusal fileOf encodeAll jobOf numbers examination outside lowest field ranges geometry loads wind ground lbStands heightStands shieldStands unless first
 marked = (refl, (refl, (refl, (refl, (refl, tt)))))
