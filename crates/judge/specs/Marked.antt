@@ -9,7 +9,7 @@ use Rattle.basis.specs.Refusal.{number, place, unless, first}
 use Rattle.basis.specs.Marked.{Row, row, Hold}
 use Rattle.job.specs.declared.Job.{Job}
 use Rattle.job.specs.Job.{jobOf}
-use Rattle.job.specs.Ranges.{field, lbStands, heightStands, shieldStands, geometry, loads, wind, ground, outside}
+use Rattle.job.specs.Ranges.{lbStands, heightStands, shieldStands, geometry, loads, wind, ground, ranges, field, lowest, outside}
 use Rattle.job.specs.Examine as Job
 use Rattle.sheet.specs.Sheet as Sheet
 use Rattle.job.specs.JobJ.{numbersJ, jobJ}
@@ -40,7 +40,7 @@ rows =
 
 -- on an `unfolding` line: all that examining a sheet and a job computes
 unfoldable pub examined : Unit {0}
-unfolding sheetT firstFail unless first field lbStands heightStands shieldStands geometry loads wind ground outside Job.examination Sheet.stands Sheet.entryStands Sheet.fault Sheet.examination refusal
+unfolding sheetT firstFail unless first lbStands heightStands shieldStands geometry loads wind ground ranges field lowest outside Job.examination Sheet.stands Sheet.entryStands Sheet.fault Sheet.examination refusal
 examined = tt
 
 pub marked : Hold rows
