@@ -1,1 +1,2 @@
 pub mod LengthFactor
+pub mod Poles

@@ -1,4 +1,5 @@
 pub mod Decimals
 pub mod Section5
 pub mod Harsher
+pub mod Poles
 pub mod Marked

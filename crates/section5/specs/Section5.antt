@@ -87,7 +87,7 @@ lengthFactor family lb ties = factorAt (familyPlace family) (spacingRow family l
 
 -- ---- Figures and checks of any pole, of the numbers that they rest on
 
--- wind: 0.7 × height factor × shape × w0, up to a whole N/m²
+-- wind: 0.7 × height factor (exposure) × shape × w0, up to a whole N/m²
 unfoldable pub windPressure : Ratio → Ratio → Ratio → ℕ
 windPressure exposure shape w0 = up (0·7 ⊗ exposure ⊗ shape ⊗ w0)
 
@@ -168,7 +168,7 @@ module _ (j : Job) where
   unfoldable pub w0 : Ratio
   w0 = whole (j .wind)
 
-  -- the height factor
+  -- document 01's "height factor", field 16, under the name that the code has
   unfoldable pub exposure : Ratio
   exposure = thousandths (j .exposure)
 
