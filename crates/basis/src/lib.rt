@@ -128,7 +128,7 @@ pub fn least_of(a: u64, b: u64) -> u64
 }
 
 // n over d, up to a whole number.
-// requires: every caller divides a figure that is bounded for accepted jobs by a constant.
+// requires: every caller divides a figure that is bounded for accepted jobs by a constant above 0 or by a tube's value.
 pub fn ceil_div(n: u64, d: u64) -> u64
     requires { ⌜ (0 < d) × (n + d < 18446744073709551616) ⌝ }
     ensures { λ r. ⌜ r ≡ ceil n d ⌝ }
