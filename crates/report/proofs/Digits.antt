@@ -2,7 +2,7 @@
 -- Assumes nothing.
 use mathlib.Core.Path.{_≡_, refl, sym, ap, _∙_}
 use mathlib.Core.List.{[], _∷_, _++_}
-use Prim.Native.Nat.{ℕ, zero, suc, _+_, _*_, _/_, _%_, _≤_, _<_}
+use Prim.Native.Nat.{ℕ, zero, suc, _*_, _/_, _%_, _≤_, _<_}
 use native.Mathlib.Nat.{le-refl}
 use native.Mathlib.Omega.{arith}
 use lib.Dec.{T, ltb, leb, leb→le}
@@ -10,14 +10,14 @@ use lib.ListN.{length, length-append}
 use borrow.Author.Tests.{lt-ltb, le-ltb, ltb-true, ltb-false}
 use Rattle.basis.specs.Figure.{Is}
 use Rattle.basis.proofs.Tests.{cases}
-use Rattle.report.specs.Digits.{digitsWithin, digits}
+use Rattle.report.specs.Digits.{digitByte, digitsWithin, digits}
 
-within-one : (f n : ℕ) → n < 10 → digitsWithin f n ≡ (48 + n) ∷ []
+within-one : (f n : ℕ) → n < 10 → digitsWithin f n ≡ digitByte n ∷ []
 unfolding digitsWithin
 within-one zero n h = refl
 within-one (suc f) n h = rw (lt-ltb n 10 h, digitsWithin) refl
 
-within-more : (f n : ℕ) → 10 ≤ n → digitsWithin (suc f) n ≡ digitsWithin f (n / 10) ++ ((48 + n % 10) ∷ [])
+within-more : (f n : ℕ) → 10 ≤ n → digitsWithin (suc f) n ≡ digitsWithin f (n / 10) ++ (digitByte (n % 10) ∷ [])
 unfolding digitsWithin
 within-more f n h = rw (le-ltb n 10 h, digitsWithin) refl
 
@@ -29,14 +29,22 @@ within-enough (suc f) (suc g) n h k =
     cases (ltb n 10) (λ t. let l = ltb-true n 10 t in within-one (suc f) n l ∙ sym (within-one (suc g) n l))
     (λ t. let l = ltb-false n 10 t in rw (within-more f n l, within-more g n l, within-enough f g (n / 10) (omega arith) (omega arith)))
 
-pub one : (n : ℕ) → n < 10 → digits n ≡ (48 + n) ∷ []
+pub one : (n : ℕ) → n < 10 → digits n ≡ digitByte n ∷ []
 unfolding digits
 one n = within-one n n
 
-pub more : (n : ℕ) → 10 ≤ n → digits n ≡ digits (n / 10) ++ ((48 + n % 10) ∷ [])
+pub more : (n : ℕ) → 10 ≤ n → digits n ≡ digits (n / 10) ++ (digitByte (n % 10) ∷ [])
 unfolding digits
 more zero h = absurd (omega arith)
 more (suc m) h = rw (within-more m (suc m) h, within-enough m (suc m / 10) (suc m / 10) (omega arith) (omega arith))
+
+-- by the digits: of one, and of those before the last and the last
+pub decimal : (P : ℕ → Type 0) → ((n : ℕ) → n < 10 → P n) → ((n : ℕ) → 10 ≤ n → P (n / 10) → P n) → (n : ℕ) → P n
+decimal P o m n = go n n (le-refl n)
+  where
+    go : (f n : ℕ) → n ≤ f → P n
+    go zero n h = o n (omega arith)
+    go (suc f) n h = cases (ltb n 10) (λ t. o n (ltb-true n 10 t)) (λ t. let l = ltb-false n 10 t in m n l (go f (n / 10) (omega arith)))
 
 pub one-length : (n : ℕ) → n < 10 → length (digits n) ≡ 1
 one-length n h = ap length (one n h)

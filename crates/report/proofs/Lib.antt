@@ -1,4 +1,5 @@
 pub mod Digits
+pub mod ReadBack
 pub mod Stores
 pub mod Numbers
 pub mod Put

@@ -1,4 +1,5 @@
 pub mod Digits
+pub mod ReadBack
 pub mod Report
 pub mod Put
 pub mod Enough
