@@ -1,7 +1,7 @@
 -- The three demands, proved.
 -- Assumes nothing.
 use mathlib.Core.Path.{_≡_, refl, sym, ap, _∙_}
-use mathlib.Core.List.{List, append-assoc}
+use mathlib.Core.List.{List}
 use Prim.Native.Nat.{ℕ, _<_}
 use lib.Dec.{eqb, lit<}
 use lib.ListN.{length}
@@ -14,7 +14,7 @@ use Rattle.job.specs.Job.{jobOf}
 use Rattle.job.specs.Examine as Job
 use Rattle.job.proofs.Numbers.{numbers-job}
 use Rattle.sheet.specs.Sheet.{examination}
-use Rattle.section5.specs.Section5.{checks, verdicts, figures, judgement}
+use Rattle.section5.specs.Section5.{checks, judgement}
 use Rattle.judge.specs.Answer.{Accepted, refusal}
 use Rattle.judge.specs.Demand3 as Judging
 use Rattle.judge.proofs.Demand.{demand3}
@@ -29,7 +29,7 @@ use Rattle.rembilung.specs.Code.{writtenCode, readCode, readNumbers}
 use Rattle.rembilung.specs.Call.{entriesOf, reportIn, text, sheetRefusal, callRefusal, callCode, callBuffer}
 use Rattle.rembilung.specs.Shown.{verdictShown}
 use Rattle.rembilung.specs.Demands.{Demand1, Demand2, Demands}
-use Rattle.rembilung.proofs.Shown.{lines-show, verdicts-digits, rows-long}
+use Rattle.rembilung.proofs.Shown.{verdict-shown}
 
 demand1 : Demand1
 unfolding callCode callBuffer Write.fileWritten Write.fileLeft Writing.writtenOr Writing.leftOr writtenCode jobIn readCode readNumbers
@@ -67,12 +67,11 @@ call-accepted sheet file out {j} e h =
 
 -- what an answered call's report shows
 shown : (sheet file out : List ℕ) {j : Job} → jobIn file ≡ Read.Accepted j → number (callRefusal sheet file out) ≡ 0 → (i : ℕ) → i < checks → verdictShown (callBuffer sheet file out) i ≡ Judging.verdictAt (entriesOf sheet) j i
-unfolding report judgement
+unfolding judgement
 shown sheet file out {j} e h i l =
     let s = entriesOf sheet in
-    let w = rows-long j s in
-    rw (demand1 .answered sheet file out h .1, text-is sheet file e, accepted-judgement s j (call-accepted sheet file out e h), append-assoc)
-    (lines-show 1 (verdicts j s) (figures j) _ i (w .0 ∙ sym (w .1)) (verdicts-digits j s) (rw (w .0) l))
+    rw (demand1 .answered sheet file out h .1, text-is sheet file e, accepted-judgement s j (call-accepted sheet file out e h))
+    (verdict-shown j s _ i l)
 
 pub demands : Demands
 demands =

@@ -1,20 +1,22 @@
--- The verdict shown in a line of a report is the judgement's.
+-- The verdicts and the stability height that a report shows are the paper's.
 -- Assumes nothing.
-use mathlib.Core.Path.{_≡_, refl, _∙_}
+use mathlib.Core.Path.{_≡_, refl, ap, _∙_}
 use mathlib.Core.List.{List, [], _∷_, _++_, append-assoc}
-use Prim.Native.Nat.{ℕ, zero, suc, _+_, _/_, _%_, _<_}
+use Prim.Native.Nat.{ℕ, zero, suc, _%_, _<_}
 use native.Mathlib.Omega.{arith}
-use lib.Dec.{ltb, lit<}
+use lib.Dec.{lit<}
 use lib.ListN.{length, getD}
 use borrow.Author.Tests.{eq-eqb, ne-eqb}
-use Rattle.basis.proofs.Tests.{cases}
 use Rattle.job.specs.declared.Job.{Job}
-use Rattle.section5.specs.Section5.{checks, check1, check2, check3, check4, check5, check6, check7, check8, notDue, check9, check10, check11, verdicts, figures}
-use Rattle.calculation.proofs.Verdicts.{verdict-digit, due-digit}
-use Rattle.report.specs.Digits.{digitsWithin, digits}
-use Rattle.report.specs.Report.{space, lineEnd, numberThen, checkLine, checkLines}
-use Rattle.report.proofs.Digits.{one}
-use Rattle.rembilung.specs.Shown.{after, afterLines, verdictShown}
+use Rattle.section5.specs.declared.Height.{Height}
+use Rattle.section5.specs.declared.Height.the-variants.{None, At}
+use Rattle.section5.specs.Section5.{checks, verdicts, figures, stability, heights, judgement}
+use Rattle.report.specs.Digits.{digitByte, digits}
+use Rattle.report.specs.Report.{space, lineEnd, numberThen, checkLine, checkLines, pair, pairLine, heightLine, report}
+use Rattle.report.specs.ReadBack.{numberAt}
+use Rattle.report.proofs.Digits.{decimal, one, more}
+use Rattle.report.proofs.ReadBack.{read-back}
+use Rattle.rembilung.specs.Shown.{after, afterLines, shownIn, verdictShown, heightAt, heightShown}
 
 after-here : (b : ℕ) (l : List ℕ) → after b (b ∷ l) ≡ l
 unfolding after
@@ -25,25 +27,36 @@ unfolding after
 after-other b x l h = simp (ne-eqb x b h)
 
 -- no digit is a byte below 48
-after-within : (b f n : ℕ) (l : List ℕ) → b < 48 → after b (digitsWithin f n ++ l) ≡ after b l
-unfolding digitsWithin
-after-within b zero n l h = after-other b (48 + n) l (λ e. omega arith)
-after-within b (suc f) n l h =
-    cases (ltb n 10) (λ t. rw (t, digitsWithin) (after-other b (48 + n) l (λ e. omega arith)))
-    (λ t. rw (t, digitsWithin, append-assoc) (after-within b f (n / 10) ((48 + n % 10) ∷ l) h ∙ after-other b (48 + n % 10) l (λ e. omega arith)))
+after-digits : (b : ℕ) → b < 48 → (n : ℕ) (l : List ℕ) → after b (digits n ++ l) ≡ after b l
+after-digits b h =
+    decimal (λ n. (l : List ℕ) → after b (digits n ++ l) ≡ after b l) (λ n k l. rw (one n k) (after-other b (digitByte n) l (λ e. omega arith)))
+    (λ n k ih l. rw (more n k, append-assoc) (ih _ ∙ after-other b (digitByte (n % 10)) l (λ e. omega arith)))
 
-after-digits : (b n : ℕ) (l : List ℕ) → b < 48 → after b (digits n ++ l) ≡ after b l
-unfolding digits
-after-digits b n l h = after-within b n n l h
+-- nor is a number's first above 57
+first-below : (n : ℕ) (l : List ℕ) → getD (digits n ++ l) 0 0 < 58
+first-below =
+    decimal (λ n. (l : List ℕ) → getD (digits n ++ l) 0 0 < 58) (λ n k l. rw (one n k) (omega arith)) (λ n k ih l. rw (more n k, append-assoc) (ih _))
 
 -- a number that the byte ends, and one that another byte ends
 ended : (b n : ℕ) (l : List ℕ) → b < 48 → after b (numberThen n b ++ l) ≡ l
 unfolding numberThen
-ended b n l h = rw append-assoc (after-digits b n (b ∷ l) h ∙ after-here b l)
+ended b n l h = rw append-assoc (after-digits b h n (b ∷ l) ∙ after-here b l)
 
 passed : (b n a : ℕ) (l : List ℕ) → b < 48 → (a ≡ b → ⊥) → after b (numberThen n a ++ l) ≡ after b l
 unfolding numberThen
-passed b n a l h g = rw append-assoc (after-digits b n (a ∷ l) h ∙ after-other b a l g)
+passed b n a l h g = rw append-assoc (after-digits b h n (a ∷ l) ∙ after-other b a l g)
+
+-- a number and a space are read as the number
+number-read : (n : ℕ) (l : List ℕ) → numberAt (numberThen n space ++ l) ≡ n
+unfolding numberThen
+number-read n l = rw append-assoc (read-back .back n (space ∷ l) refl)
+
+-- and as that height, since no digit is the byte of "n"
+number-height : (n : ℕ) (l : List ℕ) → heightAt (numberThen n space ++ l) ≡ At n
+unfolding heightAt numberThen
+number-height n l =
+    rw append-assoc
+    (rw (ne-eqb (getD (digits n ++ (space ∷ l)) 0 0) 110 (λ e. omega (arith, first-below n (space ∷ l)))) (ap At (read-back .back n (space ∷ l) refl)))
 
 line-end : (c v f : ℕ) (l : List ℕ) → after lineEnd (checkLine c v f ++ l) ≡ l
 unfolding checkLine
@@ -52,45 +65,34 @@ line-end c v f l =
     (passed 10 c 32 _ (lit< tt) (λ e. omega arith) ∙ (passed 10 v 32 _ (lit< tt) (λ e. omega arith) ∙ ended 10 f l (lit< tt)))
 
 -- the verdict of the first line
-first-line : (c v f : ℕ) (l : List ℕ) → v < 10 → getD (after space (checkLine c v f ++ l)) 0 0 ≡ 48 + v
+first-line : (c v f : ℕ) (l : List ℕ) → numberAt (after space (checkLine c v f ++ l)) ≡ v
 unfolding checkLine
-first-line c v f l h = simp append-assoc (rw (ended 32 c _ (lit< tt)) (unfold numberThen in rw one))
+first-line c v f l = simp append-assoc (rw (ended 32 c _ (lit< tt)) (number-read v _))
 
--- each is one digit
-pub OneDigit : List ℕ → Type 0
-OneDigit [] = Unit {0}
-OneDigit (v ∷ vs) = (v < 10) × OneDigit vs
+lines-show : (c : ℕ) (vs fs rest : List ℕ) (i : ℕ) → length vs ≡ length fs → i < length vs → verdictShown (checkLines c vs fs ++ rest) i ≡ getD vs i 0
+unfolding checkLines verdictShown shownIn afterLines
+lines-show c [] fs rest i e l = absurd (omega arith)
+lines-show c (v ∷ vs) [] rest i e l = absurd (omega arith)
+lines-show c (v ∷ vs) (f ∷ fs) rest zero e l = rw (append-assoc, first-line c v f _)
+lines-show c (v ∷ vs) (f ∷ fs) rest (suc i) e l = rw (append-assoc, line-end c v f _) (lines-show (suc c) vs fs rest i (omega arith) (omega arith))
 
-pub lines-show : (c : ℕ) (vs fs rest : List ℕ) (i : ℕ) → length vs ≡ length fs → OneDigit vs → i < length vs → verdictShown (checkLines c vs fs ++ rest) i ≡ getD vs i 0
-unfolding checkLines verdictShown afterLines OneDigit
-lines-show c [] fs rest i e d l = absurd (omega arith)
-lines-show c (v ∷ vs) [] rest i e d l = absurd (omega arith)
-lines-show c (v ∷ vs) (f ∷ fs) rest zero e d l = rw (append-assoc, first-line c v f _ (d .0)) (omega arith)
-lines-show c (v ∷ vs) (f ∷ fs) rest (suc i) e d l =
-    rw (append-assoc, line-end c v f _) (lines-show (suc c) vs fs rest i (omega arith) (d .1) (omega arith))
+-- what follows the lines of the checks
+lines-end : (c : ℕ) (vs fs rest : List ℕ) → length vs ≡ length fs → afterLines (length vs) (checkLines c vs fs ++ rest) ≡ rest
+unfolding checkLines afterLines
+lines-end c [] fs rest e = refl
+lines-end c (v ∷ vs) [] rest e = absurd (omega arith)
+lines-end c (v ∷ vs) (f ∷ fs) rest e = rw append-assoc (ap (afterLines (length vs)) (line-end c v f _) ∙ lines-end (suc c) vs fs rest (omega arith))
 
-pub verdicts-digits : (j : Job) (s : List ℕ) → OneDigit (verdicts j s)
-unfolding OneDigit verdicts
-verdicts-digits j s = (
-  verdict-digit (check1 j),
-  (
-    verdict-digit (check2 j),
-    (
-      verdict-digit (check3 j),
-      (
-        verdict-digit (check4 j),
-        (
-          verdict-digit (check5 j),
-          (
-            verdict-digit (check6 j),
-            (verdict-digit (check7 j s (j .height)), (due-digit (notDue j) (check8 j s (j .height)), (verdict-digit (check9 j), (verdict-digit (check10 j), (verdict-digit (check11 j), tt))))),
-          ),
-        ),
-      ),
-    ),
-  ),
-)
+-- the height of the line after the checks
+line-height : (j : Job) (H : Height) (l : List ℕ) → heightAt (after space (heightLine (heights j H) ++ l)) ≡ H
+unfolding heightLine heights after heightAt pairLine pair
+line-height j None l = refl
+line-height j (At H) l = rw append-assoc (number-height H _)
 
-pub rows-long : (j : Job) (s : List ℕ) → (length (verdicts j s) ≡ checks) × (length (figures j) ≡ checks)
-unfolding verdicts figures
-rows-long j s = (refl, refl)
+pub verdict-shown : (j : Job) (s rest : List ℕ) (i : ℕ) → i < checks → verdictShown (report (judgement j s) ++ rest) i ≡ getD (verdicts j s) i 0
+unfolding report judgement verdicts figures
+verdict-shown j s rest i l = rw append-assoc (lines-show 1 (verdicts j s) (figures j) _ i refl l)
+
+pub height-shown : (j : Job) (s rest : List ℕ) → heightShown (report (judgement j s) ++ rest) ≡ stability j s
+unfolding report judgement heightShown shownIn verdicts figures
+height-shown j s rest = simp append-assoc (ap (λ t. heightAt (after space t)) (lines-end 1 (verdicts j s) (figures j) _ refl) ∙ line-height j (stability j s) _)
