@@ -22,7 +22,7 @@ writtenOr refusal n = cond (eqb (number refusal) 0) (Length n) (Refused refusal)
 unfoldable pub leftOr : Refusal → List ℕ → List ℕ → List ℕ
 leftOr refusal text out = cond (eqb (number refusal) 0) (text ++ drop (length text) out) out
 
--- the papers' number and values for each answer: 0 and the length, or the refusal and its place
+-- the papers' values for each answer: the length alone, or the refusal's number and its place
 abbrev pub writtenValues : Written → List ℕ
-writtenValues (Length n) = 0 ∷ n ∷ []
+writtenValues (Length n) = n ∷ []
 writtenValues (Refused refusal) = number refusal ∷ place refusal ∷ []

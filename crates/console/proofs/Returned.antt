@@ -16,7 +16,7 @@ use Rattle.basis.proofs.Writing.{room-fits}
 use Rattle.io.specs.Counts.{Counts}
 use Rattle.report.specs.Refused.{refusedLine, writtenOver}
 use Rattle.basis.specs.Writing.{roomRefusal, writtenOr, leftOr}
-use Rattle.rembilung.specs.Code.{code, writtenCode}
+use Rattle.rembilung.specs.Code.{codeOf, code, writtenCode}
 use Rattle.rembilung.specs.Call.{text, callRefusal, callCode, callBuffer}
 use Rattle.console.specs.Printed.{line, refusalOf, printed, printedFrom}
 
@@ -31,14 +31,14 @@ answered t text before e n w =
 
 -- a refusal's code has its number above 32 bits and its place below
 code-line : (r : Refusal) → refusedLine (code r / 4294967296) (code r % 4294967296) ≡ line r
-unfolding code line
+unfolding codeOf line
 code-line r =
     let n : (number r * 4294967296 + min (place r) 4294967295) / 4294967296 ≡ number r = omega arith in
     let p : (number r * 4294967296 + min (place r) 4294967295) % 4294967296 ≡ min (place r) 4294967295 = omega arith in
     rw (n, p)
 
 code-least : (r : Refusal) → (number r ≡ 0 → ⊥) → 4294967296 ≤ code r
-unfolding code
+unfolding codeOf
 code-least r h = omega arith
 
 module _ (sheet file out : List ℕ) (l : length out ≡ 192) where
@@ -53,14 +53,14 @@ module _ (sheet file out : List ℕ) (l : length out ≡ 192) where
 
   report-printed : callCode sheet file out < 4294967296
       → (callCode sheet file out ≡ length (printed sheet file)) × (callBuffer sheet file out ≡ writtenOver (printed sheet file) out)
-  unfolding callCode callBuffer writtenOr leftOr writtenCode printed
+  unfolding callCode callBuffer writtenOr leftOr codeOf writtenCode printed
   report-printed h =
       cases (eqb (number (callRefusal sheet file out)) 0) (λ t. rw (← same-refusal, t) (refl, refl))
       (λ t. absurd (omega (arith, rw t at h, code-least (callRefusal sheet file out) (eqb-false (number (callRefusal sheet file out)) 0 t))))
 
   refusal-printed : 4294967296 ≤ callCode sheet file out
       → (refusedLine (callCode sheet file out / 4294967296) (callCode sheet file out % 4294967296) ≡ printed sheet file) × (callBuffer sheet file out ≡ out)
-  unfolding callCode callBuffer writtenOr leftOr writtenCode printed
+  unfolding callCode callBuffer writtenOr leftOr codeOf writtenCode printed
   refusal-printed h =
       cases (eqb (number (callRefusal sheet file out)) 0) (λ t. absurd (omega (arith, rw t at h, fits (eqb-true (number (callRefusal sheet file out)) 0 t))))
       (λ t. rw (← same-refusal, t) (code-line (callRefusal sheet file out), refl))

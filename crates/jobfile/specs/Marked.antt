@@ -30,13 +30,13 @@ rows =
     ∷ row
     (readValues (jobIn
     (1 ∷ 1 ∷ 105 ∷ 150 ∷ 1 ∷ 180 ∷ 1 ∷ 2 ∷ 184 ∷ 23 ∷ 3 ∷ 4 ∷ 2 ∷ 184 ∷ 23 ∷ 136 ∷ 39 ∷ 0 ∷ 172 ∷ 2 ∷ 172 ∷ 2 ∷ 232 ∷ 7 ∷ 1 ∷ 200 ∷ 1 ∷ 1 ∷ 240 ∷ 1 ∷ 1 ∷ 192 ∷ 62 ∷ 4 ∷ 200 ∷ 1 ∷ 208 ∷ 15 ∷ [])))
-    (0 ∷ numbersJ)
+    numbersJ
     ∷ row
     (readValues (jobIn
     (1 ∷ 1 ∷ 105 ∷ 150 ∷ 1 ∷ 180 ∷ 1 ∷ 2 ∷ 184 ∷ 23 ∷ 3 ∷ 4 ∷ 2 ∷ 184 ∷ 23 ∷ 136 ∷ 39 ∷ 128 ∷ 0 ∷ 172 ∷ 2 ∷ 172 ∷ 2 ∷ 232 ∷ 7 ∷ 1 ∷ 200 ∷ 1 ∷ 1 ∷ 240 ∷ 1 ∷ 1 ∷ 192 ∷ 62 ∷ 4 ∷ 200 ∷ 1 ∷ 208 ∷ 15 ∷ [])))
     (6 ∷ 17 ∷ [])
     -- the longest job needs the greatest length: a buffer of 41 bytes is too short for it
-    ∷ row (writtenValues (fileWritten longest (replicate greatestLength 0))) (0 ∷ greatestLength ∷ [])
+    ∷ row (writtenValues (fileWritten longest (replicate greatestLength 0))) (greatestLength ∷ [])
     ∷ row (writtenValues (fileWritten longest (replicate 41 0))) (8 ∷ greatestLength ∷ [])
     ∷ []
 

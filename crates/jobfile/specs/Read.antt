@@ -24,7 +24,7 @@ readRefusal file = first (damage jobNumbers 0 file) (examination (jobOf (values 
 unfoldable pub jobIn : List ℕ → ReadJob
 jobIn file = cond (eqb (number (readRefusal file)) 0) (Accepted (jobOf (values jobNumbers file))) (Refused (readRefusal file))
 
--- document 01's number and values for each answer: 0 and the 25 numbers of the job, or the refusal and its place
+-- document 01's values for each answer: the 25 numbers of the job, or the refusal's number and its place
 abbrev pub readValues : ReadJob → List ℕ
-readValues (Accepted j) = 0 ∷ numbers j
+readValues (Accepted j) = numbers j
 readValues (Refused refusal) = number refusal ∷ place refusal ∷ []

@@ -10,7 +10,7 @@ use Rattle.basis.specs.Refusal.{number}
 use Rattle.basis.specs.Writing as Writing
 use Rattle.basis.proofs.Refusals.{first-nothing, first-rest, unless-pass}
 use Rattle.job.specs.declared.Job.{Job}
-use Rattle.job.specs.Job.{jobOf}
+use Rattle.job.specs.Job.{jobOf, numbers}
 use Rattle.job.specs.Examine as Job
 use Rattle.job.proofs.Numbers.{numbers-job}
 use Rattle.sheet.specs.Sheet.{examination}
@@ -25,14 +25,14 @@ use Rattle.jobfile.specs.declared.ReadJob.the-variants as Read
 use Rattle.jobfile.proofs.Reading.{accepted-stands}
 use Rattle.jobfile.proofs.RoundTrip.{round-trip}
 use Rattle.report.specs.Report.{report}
-use Rattle.rembilung.specs.Code.{writtenCode, readCode, readNumbers}
+use Rattle.rembilung.specs.Code.{codeOf, writtenCode, readCode, readNumbers}
 use Rattle.rembilung.specs.Call.{entriesOf, reportIn, text, sheetRefusal, callRefusal, callCode, callBuffer}
 use Rattle.rembilung.specs.Shown.{verdictShown}
 use Rattle.rembilung.specs.Demands.{Demand1, Demand2, Demands}
 use Rattle.rembilung.proofs.Shown.{verdict-shown}
 
 demand1 : Demand1
-unfolding callCode callBuffer Write.fileWritten Write.fileLeft Writing.writtenOr Writing.leftOr writtenCode jobIn readCode readNumbers
+unfolding callCode callBuffer Write.fileWritten Write.fileLeft Writing.writtenOr Writing.leftOr codeOf writtenCode jobIn readCode readNumbers numbers
 demand1 =
     record {
       refused = λ sheet file out h. (simp (ne-eqb (number (callRefusal sheet file out)) 0 h), simp (ne-eqb (number (callRefusal sheet file out)) 0 h));
@@ -49,7 +49,7 @@ unfolding text reportIn
 text-is sheet file e = rw e
 
 demand2 : Demand2
-unfolding report judgement readCode readNumbers writtenCode
+unfolding report judgement readCode readNumbers codeOf writtenCode numbers
 demand2 =
     record {
       reported = λ sheet file j e. text-is sheet file e;

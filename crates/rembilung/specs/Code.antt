@@ -1,29 +1,36 @@
--- What the C calls return: a length alone, or refusal × 4,294,967,296 + place, a place above 4,294,967,295 being given as that.
+-- What the C calls return, from the values of an answer: a length alone, or refusal × 4,294,967,296 + place, a place above 4,294,967,295 being given as that.
 -- Assumes nothing.
+use mathlib.Core.Bool.{cond}
 use Prim.Native.Nat.{ℕ, _+_, _*_, min}
-use mathlib.Core.List.{List}
+use mathlib.Core.List.{List, [], _∷_}
+use lib.Dec.{eqb}
+use lib.ListN.{length}
 use Rattle.basis.specs.Refusal.{number, place}
 use Rattle.basis.specs.declared.Refusal.{Refusal}
 use Rattle.basis.specs.declared.Written.{Written}
-use Rattle.basis.specs.declared.Written.the-variants as Written
-use Rattle.job.specs.Job.{numbers}
+use Rattle.basis.specs.Writing.{writtenValues}
+use Rattle.jobfile.specs.Read.{jobNumbers, readValues}
 use Rattle.jobfile.specs.declared.ReadJob.{ReadJob}
-use Rattle.jobfile.specs.declared.ReadJob.the-variants.{Accepted, Refused}
 
-unfoldable pub code : Refusal → ℕ
-code refusal = number refusal * 4294967296 + min (place refusal) 4294967295
+-- one value is a length, two are a refusal's number and its place; no call returns others
+unfoldable pub codeOf : List ℕ → ℕ
+codeOf [] = 0
+codeOf (n ∷ []) = n
+codeOf (refusal ∷ (at ∷ [])) = refusal * 4294967296 + min at 4294967295
+codeOf (refusal ∷ (at ∷ (more ∷ rest))) = 0
+
+-- of a refusal
+abbrev pub code : Refusal → ℕ
+code refusal = codeOf (number refusal ∷ place refusal ∷ [])
 
 -- of writing a file or a report: its length, or the refusal
 unfoldable pub writtenCode : Written → ℕ
-writtenCode (Written.Length n) = n
-writtenCode (Written.Refused refusal) = code refusal
+writtenCode written = codeOf (writtenValues written)
 
--- of reading a file: 25, or the refusal
+-- of reading a file: 25 where its values are the 25 numbers, or the refusal
 unfoldable pub readCode : ReadJob → ℕ
-readCode (Accepted j) = 25
-readCode (Refused refusal) = code refusal
+readCode read = cond (eqb (length (readValues read)) jobNumbers) jobNumbers (codeOf (readValues read))
 
--- and the numbers afterwards: the job's, or as they were
+-- and the numbers afterwards: the 25 values, or as they were
 unfoldable pub readNumbers : ReadJob → List ℕ → List ℕ
-readNumbers (Accepted j) before = numbers j
-readNumbers (Refused refusal) before = before
+readNumbers read before = cond (eqb (length (readValues read)) jobNumbers) (readValues read) before

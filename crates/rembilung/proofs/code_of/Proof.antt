@@ -1,6 +1,6 @@
 -- `code_of` meets its contract. Assumes nothing.
 use borrow.Author.Needs.{needs}
-use Rattle.rembilung.specs.Code.{code}
+use Rattle.rembilung.specs.Code.{codeOf}
 use Rattle.rembilung.proofs.code_of.Statement.{statement}
 use Rattle.rembilung.proofs.code_of.Tie as tie
 
@@ -12,4 +12,4 @@ code-of-spec =
     (λ c. search needs)  -- mul-result
     (λ c κs. search needs)  -- least-of-requires
     (λ c. search needs)  -- add-result
-    (λ c. unfold code in cc))  -- returns
+    (λ c. unfold codeOf in cc))  -- returns
