@@ -49,7 +49,7 @@ module _ (sheet file out : List ℕ) (l : length out ≡ 192) where
   -- a report that is not refused has room
   fits : number (callRefusal sheet file out) ≡ 0 → length (text sheet file) ≤ 192
   unfolding callRefusal
-  fits h = omega (arith, room-fits (text sheet file) out (first-nothing _ _ (first-nothing _ _ h .1) .1))
+  fits h = omega (arith, room-fits (text sheet file) out (first-nothing _ _ h .1))
 
   report-printed : callCode sheet file out < 4294967296
       → (callCode sheet file out ≡ length (printed sheet file)) × (callBuffer sheet file out ≡ writtenOver (printed sheet file) out)

@@ -25,14 +25,14 @@ use Rattle.jobfile.specs.declared.ReadJob.the-variants as Read
 use Rattle.jobfile.proofs.Reading.{accepted-stands}
 use Rattle.jobfile.proofs.RoundTrip.{round-trip}
 use Rattle.report.specs.Report.{report}
-use Rattle.rembilung.specs.Code.{codeOf, writtenCode, readCode, readNumbers}
-use Rattle.rembilung.specs.Call.{entriesOf, reportIn, text, sheetRefusal, callRefusal, callCode, callBuffer}
+use Rattle.rembilung.specs.Code.{codeOf, writtenCode}
+use Rattle.rembilung.specs.Call.{entriesOf, refusalIn, reportIn, text, sheetRefusal, inputRefusal, callRefusal, callCode, callBuffer, readCode, readBuffer}
 use Rattle.rembilung.specs.Shown.{verdictShown}
 use Rattle.rembilung.specs.Demands.{Demand1, Demand2, Demands}
 use Rattle.rembilung.proofs.Shown.{verdict-shown}
 
 demand1 : Demand1
-unfolding callCode callBuffer Write.fileWritten Write.fileLeft Writing.writtenOr Writing.leftOr codeOf writtenCode jobIn readCode readNumbers numbers
+unfolding callCode callBuffer Write.fileWritten Write.fileLeft Writing.writtenOr Writing.leftOr codeOf writtenCode jobIn readCode readBuffer numbers
 demand1 =
     record {
       refused = λ sheet file out h. (simp (ne-eqb (number (callRefusal sheet file out)) 0 h), simp (ne-eqb (number (callRefusal sheet file out)) 0 h));
@@ -49,7 +49,7 @@ unfolding text reportIn
 text-is sheet file e = rw e
 
 demand2 : Demand2
-unfolding report judgement readCode readNumbers codeOf writtenCode numbers
+unfolding report judgement readCode readBuffer codeOf writtenCode numbers
 demand2 =
     record {
       reported = λ sheet file j e. text-is sheet file e;
@@ -59,9 +59,9 @@ demand2 =
 
 -- an answered call has an accepted job
 call-accepted : (sheet file out : List ℕ) {j : Job} → jobIn file ≡ Read.Accepted j → number (callRefusal sheet file out) ≡ 0 → Accepted (entriesOf sheet) j
-unfolding callRefusal sheetRefusal Accepted refusal Job.Stands
+unfolding callRefusal inputRefusal sheetRefusal Accepted refusal Job.Stands
 call-accepted sheet file out {j} e h =
-    let n = first-nothing (sheetRefusal sheet) _ h .0 in
+    let n = first-nothing (sheetRefusal sheet) (refusalIn (jobIn file)) (first-nothing (inputRefusal sheet file) _ h .0) .0 in
     let s = unless-pass (eqb (length sheet) 502) _ _ (lit< tt) n .1 in
     ap number (sym (first-rest (examination (entriesOf sheet)) (Job.examination j) s)) ∙ accepted-stands file j e
 

@@ -18,7 +18,7 @@ use Rattle.jobfile.specs.declared.ReadJob.the-variants.{Accepted, Refused}
 use Rattle.jobfile.proofs.Reading.{refused-number}
 use Rattle.report.specs.Report.{reportWritten, reportLeft}
 use Rattle.rembilung.specs.Code.{code, writtenCode}
-use Rattle.rembilung.specs.Call.{entriesOf, refusalIn, reportIn, text, sheetRefusal, callRefusal, callCode, callBuffer}
+use Rattle.rembilung.specs.Call.{entriesOf, refusalIn, reportIn, text, sheetRefusal, inputRefusal, callRefusal, callCode, callBuffer}
 
 -- a sheet of which nothing is refused stands
 pub sheet-accepted : (entries : List ℕ) {r : Refusal} → r ≡ Sheet.examination entries → number r ≡ 0 → Sheet.Stands entries
@@ -27,12 +27,15 @@ sheet-accepted entries e h = sym (ap number e) ∙ h
 
 module _ (sheet file out : List ℕ) where
   -- a refusal, and the buffer as it was
-  refused : {r : Refusal} → r ≡ callRefusal sheet file out → (number r ≡ 0 → ⊥) → (code r ≡ callCode sheet file out) × (out ≡ callBuffer sheet file out)
-  unfolding callCode callBuffer writtenOr leftOr writtenCode
-  refused {r} e h = (simp (← e, ne-eqb (number r) 0 h), simp (← e, ne-eqb (number r) 0 h))
+  refused : {r : Refusal} → r ≡ inputRefusal sheet file → (number r ≡ 0 → ⊥) → (code r ≡ callCode sheet file out) × (out ≡ callBuffer sheet file out)
+  unfolding callRefusal callCode callBuffer writtenOr leftOr writtenCode
+  refused {r} e h =
+      let t = ne-eqb (number r) 0 h in
+      let f = first-here r (roomRefusal (text sheet file) out) h in
+      (simp (← e, ← f, t), simp (← e, ← f, t))
 
   pub bad-length : (length sheet ≡ 502 → ⊥) → (code (sheetLength (length sheet)) ≡ callCode sheet file out) × (out ≡ callBuffer sheet file out)
-  unfolding callRefusal sheetRefusal unless
+  unfolding inputRefusal sheetRefusal unless
   bad-length h =
       let e : sheetLength (length sheet) ≡ sheetRefusal sheet = simp (ne-eqb (length sheet) 502 h) in
       refused (rw (← e) (first-here _ _ (λ z. absurd (omega arith)))) (λ z. absurd (omega arith))
@@ -43,21 +46,21 @@ module _ (sheet file out : List ℕ) where
     sheet-is = simp (eq-eqb (length sheet) 502 l)
 
     pub bad-sheet : {r : Refusal} → r ≡ Sheet.examination (entriesOf sheet) → (number r ≡ 0 → ⊥) → (code r ≡ callCode sheet file out) × (out ≡ callBuffer sheet file out)
-    unfolding callRefusal
+    unfolding inputRefusal
     bad-sheet {r} e h = refused (rw (sheet-is, ← e) (first-here r _ h)) h
 
     module _ (s : Sheet.Stands (entriesOf sheet)) where
-      later : callRefusal sheet file out ≡ first (refusalIn (jobIn file)) (roomRefusal (text sheet file) out)
-      unfolding callRefusal Sheet.Stands
+      later : inputRefusal sheet file ≡ refusalIn (jobIn file)
+      unfolding inputRefusal Sheet.Stands
       later = sym (first-rest (sheetRefusal sheet) _ (ap number sheet-is ∙ s))
 
       bad-file : {r : Refusal} → jobIn file ≡ Refused r → (code r ≡ callCode sheet file out) × (out ≡ callBuffer sheet file out)
       unfolding refusalIn
-      bad-file {r} e = refused (rw (later, e) (first-here r _ (refused-number file e))) (refused-number file e)
+      bad-file {r} e = refused (rw (later, e) refl) (refused-number file e)
 
       -- the report, or a buffer too short for it
       reported : {j : Job} → jobIn file ≡ Accepted j → (writtenCode (reportWritten (judgement j (entriesOf sheet)) out) ≡ callCode sheet file out) × (reportLeft (judgement j (entriesOf sheet)) out ≡ callBuffer sheet file out)
-      unfolding callCode callBuffer refusalIn reportIn text first
+      unfolding callRefusal callCode callBuffer refusalIn reportIn text first
       reported e = rw (later, e) (refl, refl)
 
     -- the same with the entries that the code has read

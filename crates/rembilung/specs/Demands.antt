@@ -17,8 +17,8 @@ use Rattle.jobfile.specs.Read.{readRefusal, jobIn}
 use Rattle.jobfile.specs.Write.{writeRefusal, fileOf, fileWritten, fileLeft}
 use Rattle.jobfile.specs.declared.ReadJob.the-variants.{Accepted}
 use Rattle.report.specs.Report.{checkLines, heightLine, windLine, columnLine}
-use Rattle.rembilung.specs.Code.{code, writtenCode, readCode, readNumbers}
-use Rattle.rembilung.specs.Call.{entriesOf, text, callRefusal, callCode, callBuffer}
+use Rattle.rembilung.specs.Code.{code, writtenCode}
+use Rattle.rembilung.specs.Call.{entriesOf, text, callRefusal, callCode, callBuffer, readCode, readBuffer}
 use Rattle.rembilung.specs.Shown.{verdictShown}
 
 -- 1. A job with a figure outside its range, two figures that contradict each other, a wall unfit for a single row, a damaged column sheet or
@@ -36,9 +36,9 @@ pub record Demand1 : Type 0 where
       → (writtenCode (fileWritten j out) ≡ length (fileOf j)) × (fileLeft j out ≡ fileOf j ++ drop (length (fileOf j)) out)
   -- reading one
   pub read-refused : (file before : List ℕ) → (number (readRefusal file) ≡ 0 → ⊥)
-      → (readCode (jobIn file) ≡ code (readRefusal file)) × (readNumbers (jobIn file) before ≡ before)
+      → (readCode file ≡ code (readRefusal file)) × (readBuffer file before ≡ before)
   pub read-answered : (file before : List ℕ) → number (readRefusal file) ≡ 0
-      → (readCode (jobIn file) ≡ 25) × (readNumbers (jobIn file) before ≡ numbers (jobOf (values 25 file)))
+      → (readCode file ≡ 25) × (readBuffer file before ≡ numbers (jobOf (values 25 file)))
 
 -- 2. Every verdict and figure is the one that document 01 gives. A job written to a file reads back as that job, and a file that was read
 -- writes back as those bytes.
@@ -49,7 +49,7 @@ pub record Demand2 : Type 0 where
       text sheet file ≡ checkLines 1 (verdicts j s) (figures j) ++ (heightLine (heights j (stability j s)) ++ (windLine (wk j) (Mw j) ++ columnLine (Z j))))
   -- 25 numbers that were written read back
   pub job-back : (n out before : List ℕ) (k : ℕ) → length n ≡ 25 → fileWritten (jobOf n) out ≡ Length k
-      → (readCode (jobIn (take k (fileLeft (jobOf n) out))) ≡ 25) × (readNumbers (jobIn (take k (fileLeft (jobOf n) out))) before ≡ n)
+      → (readCode (take k (fileLeft (jobOf n) out)) ≡ 25) × (readBuffer (take k (fileLeft (jobOf n) out)) before ≡ n)
   -- a file that was read writes back as those bytes
   pub file-back : (file out : List ℕ) (j : Job) → Bytes file → jobIn file ≡ Accepted j → length file ≤ length out
       → (writtenCode (fileWritten j out) ≡ length file) × (fileLeft j out ≡ file ++ drop (length file) out)

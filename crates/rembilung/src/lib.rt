@@ -1,14 +1,11 @@
 // The C interface: the whole call, and job files for a host that keys numbers in.
 ghost use mathlib.Core.Path.{_≡_};
-ghost use Rattle.job.specs.Job.{jobOf};
 ghost use Rattle.job.specs.Examine.{Stands as JobStands};
 ghost use Rattle.sheet.specs.Sheet.{Stands};
 ghost use Rattle.section5.specs.Section5.{judgement};
-ghost use Rattle.jobfile.specs.Read.{jobIn};
-ghost use Rattle.jobfile.specs.Write.{fileWritten, fileLeft};
 ghost use Rattle.report.specs.Report.{reportWritten, reportLeft};
-ghost use Rattle.rembilung.specs.Code.{code, writtenCode, readCode, readNumbers};
-ghost use Rattle.rembilung.specs.Call.{callCode, callBuffer};
+ghost use Rattle.rembilung.specs.Code.{code, writtenCode};
+ghost use Rattle.rembilung.specs.Call.{callCode, callBuffer, writeCode, writeBuffer, readCode, readBuffer};
 use basis::Refusal;
 use basis::SHEET_LENGTH;
 use basis::Written;
@@ -40,7 +37,8 @@ fn written_code(written: Written) -> u64
 // The job file of 25 numbers: its length, or a refusal (3, 4, 5, 8).
 #[no_mangle]
 pub extern "C" fn rembilung_write_job(numbers: &[u32; 25], file: &mut [u8]) -> u64
-    ensures { λ r. ⌜ (r ≡ writtenCode (fileWritten (jobOf (now (numbers .entry))) (now (file .entry)))) × (now (file .exit) ≡ fileLeft (jobOf (now (numbers .entry))) (now (file .entry))) ⌝ }
+    ensures returned { λ r. ⌜ r ≡ writeCode (now (numbers .entry)) (now (file .entry)) ⌝ }
+    ensures buffer { λ _. ⌜ now (file .exit) ≡ writeBuffer (now (numbers .entry)) (now (file .entry)) ⌝ }
 {
     written_code(jobfile::write(from_numbers(*numbers), file))
 }
@@ -48,7 +46,8 @@ pub extern "C" fn rembilung_write_job(numbers: &[u32; 25], file: &mut [u8]) -> u
 // The 25 numbers of a job file: 25, or a refusal (6, 7, 3, 4, 5), with the numbers as they were.
 #[no_mangle]
 pub extern "C" fn rembilung_read_job(file: &[u8], numbers: &mut [u32; 25]) -> u64
-    ensures { λ r. ⌜ (r ≡ readCode (jobIn (now (file .entry)))) × (now (numbers .exit) ≡ readNumbers (jobIn (now (file .entry))) (now (numbers .entry))) ⌝ }
+    ensures returned { λ r. ⌜ r ≡ readCode (now (file .entry)) ⌝ }
+    ensures buffer { λ _. ⌜ now (numbers .exit) ≡ readBuffer (now (file .entry)) (now (numbers .entry)) ⌝ }
 {
     match jobfile::read(file) {
         ReadJob::Accepted(j) => {
@@ -62,7 +61,8 @@ pub extern "C" fn rembilung_read_job(file: &[u8], numbers: &mut [u32; 25]) -> u6
 // Judges an accepted sheet and job, and writes the report.
 fn report_into(sheet: &[u16], j: Job, out: &mut [u8]) -> u64
     requires { ⌜ Stands (now sheet) × JobStands j ⌝ }
-    ensures { λ r. ⌜ (r ≡ writtenCode (reportWritten (judgement j (now (sheet .entry))) (now (out .entry)))) × (now (out .exit) ≡ reportLeft (judgement j (now (sheet .entry))) (now (out .entry))) ⌝ }
+    ensures returned { λ r. ⌜ r ≡ writtenCode (reportWritten (judgement j (now (sheet .entry))) (now (out .entry))) ⌝ }
+    ensures buffer { λ _. ⌜ now (out .exit) ≡ reportLeft (judgement j (now (sheet .entry))) (now (out .entry)) ⌝ }
 {
     written_code(report::write(judge_accepted(sheet, j), out))
 }
@@ -70,7 +70,8 @@ fn report_into(sheet: &[u16], j: Job, out: &mut [u8]) -> u64
 // The whole call: the report's length, or a refusal (1, 2, 6, 7, 3, 4, 5, 8), with the buffer as it was.
 #[no_mangle]
 pub extern "C" fn rembilung_verdict(sheet: &[u8], file: &[u8], report: &mut [u8]) -> u64
-    ensures { λ r. ⌜ (r ≡ callCode (now (sheet .entry)) (now (file .entry)) (now (report .entry))) × (now (report .exit) ≡ callBuffer (now (sheet .entry)) (now (file .entry)) (now (report .entry))) ⌝ }
+    ensures returned { λ r. ⌜ r ≡ callCode (now (sheet .entry)) (now (file .entry)) (now (report .entry)) ⌝ }
+    ensures buffer { λ _. ⌜ now (report .exit) ≡ callBuffer (now (sheet .entry)) (now (file .entry)) (now (report .entry)) ⌝ }
 {
     let n = sheet.len();
     if n != 502 {

@@ -1,6 +1,7 @@
 -- `rembilung_read_job` meets its contract. Assumes nothing.
+use mathlib.Core.Path.{sym, _∙_}
 use borrow.Author.Needs.{needs}
-use Rattle.rembilung.proofs.Returned.{read-accepted, numbers-accepted, read-refused, numbers-refused}
+use Rattle.rembilung.proofs.Returned.{read-accepted, read-refused}
 use Rattle.rembilung.proofs.rembilung_read_job.Statement.{statement}
 use Rattle.rembilung.proofs.rembilung_read_job.Tie as tie
 
@@ -13,5 +14,5 @@ rembilung-read-job-spec =
     (λ c κs. search needs)  -- to-numbers-requires
     (λ c. search needs)  -- enum-known-refusal
     (λ c κs. search needs)  -- code-of-requires
-    (λ c. let e = c .before .before .j .given .1 in (cc (read-accepted e), cc (numbers-accepted (c .before .before .before .before .before .before .args .numbers .now) e)))  -- returns
-    (λ c. let e = c .before .before .refusal .given .1 in (cc (read-refused e), cc (numbers-refused (c .before .before .before .before .before .before .args .numbers .now) e))))  -- returns-2
+    (λ c. let b = c .before .before in let r = read-accepted _ (b .before .before .before .before .args .numbers .now) (sym (b .before .before .read .ensures) ∙ b .j .given .1) in (r .0, c .to-numbers .ensures ∙ r .1))  -- returns
+    (λ c. let b = c .before .before in let r = read-refused _ (b .before .before .before .before .args .numbers .now) (sym (b .before .before .read .ensures) ∙ b .refusal .given .1) in (c .code-of .ensures ∙ r .0, r .1)))  -- returns-2

@@ -1,5 +1,6 @@
 -- `rembilung_write_job` meets its contract. Assumes nothing.
 use borrow.Author.Needs.{needs}
+use Rattle.rembilung.specs.Call.{writeCode, writeBuffer}
 use Rattle.rembilung.proofs.rembilung_write_job.Statement.{statement}
 use Rattle.rembilung.proofs.rembilung_write_job.Tie as tie
 
@@ -11,4 +12,4 @@ rembilung-write-job-spec =
     (λ c κs. search needs)  -- write-requires
     (λ c κs. search needs)  -- written-code-requires
     (λ c. search needs)  -- same-length
-    (λ c. (cc, cc)))  -- returns
+    (λ c. (unfold writeCode in cc, unfold writeBuffer in cc)))  -- returns
