@@ -14,8 +14,9 @@ pub(crate) const GREATEST_PLACE: u64 = 4294967295;
 
 // The report, or the line of the refusal, at the front of a buffer, from a sheet's size and first bytes and a file; gives its length.
 pub fn write_printed(size: u64, sheet: &[u8], file: &[u8], out: &mut [u8; ROOM]) -> usize
-    ensures { λ r. ⌜ Counts r (now (out .exit)) ⌝ }
-    ensures { λ r. ⌜ (r ≡ length (printedFrom size (now (sheet .entry)) (now (file .entry)))) × (now (out .exit) ≡ writtenOver (printedFrom size (now (sheet .entry)) (now (file .entry))) (now (out .entry))) ⌝ }
+    ensures within { λ r. ⌜ Counts r (now (out .exit)) ⌝ }
+    ensures returned { λ r. ⌜ r ≡ length (printedFrom size (now (sheet .entry)) (now (file .entry))) ⌝ }
+    ensures buffer { λ _. ⌜ now (out .exit) ≡ writtenOver (printedFrom size (now (sheet .entry)) (now (file .entry))) (now (out .entry)) ⌝ }
 {
     if size != 502 {
         return write_refused(1, least_of(size, GREATEST_PLACE), out);

@@ -170,7 +170,8 @@ pub fn numbers_length(numbers: [u32; MOST], count: usize) -> usize
 // requires: the callers have compared the length of all that they write with the buffer's.
 pub fn write_number(n: u32, out: &mut [u8]) -> usize
     requires { ⌜ length (encode n) ≤ length (now out) ⌝ }
-    ensures { λ r. ⌜ (r ≡ length (encode n)) × (now (out .exit) ≡ encode n ++ drop (length (encode n)) (now (out .entry))) ⌝ }
+    ensures returned { λ r. ⌜ r ≡ length (encode n) ⌝ }
+    ensures buffer { λ _. ⌜ now (out .exit) ≡ encode n ++ drop (length (encode n)) (now (out .entry)) ⌝ }
 {
     let mut x = n;
     let mut k: usize = 0;

@@ -50,7 +50,8 @@ pub fn read(file: &[u8]) -> ReadJob
 
 // Writes the file of a job at the front of a buffer, which stays as it is where the job is refused or does not fit.
 pub fn write(j: Job, out: &mut [u8]) -> Written
-    ensures { λ r. ⌜ (r ≡ fileWritten j (now (out .entry))) × (now (out .exit) ≡ fileLeft j (now (out .entry))) ⌝ }
+    ensures returned { λ r. ⌜ r ≡ fileWritten j (now (out .entry)) ⌝ }
+    ensures buffer { λ _. ⌜ now (out .exit) ≡ fileLeft j (now (out .entry)) ⌝ }
 {
     let numbers = to_numbers(j);
     let needed = numbers_length(numbers, JOB_NUMBERS);

@@ -54,7 +54,8 @@ fn put_report(out: &mut [u8], g: Judgement) -> usize
 
 // Refuses a buffer that is too short (8), or writes the report at its front.
 pub fn write(g: Judgement, out: &mut [u8]) -> Written
-    ensures { λ r. ⌜ (r ≡ reportWritten g (now (out .entry))) × (now (out .exit) ≡ reportLeft g (now (out .entry))) ⌝ }
+    ensures returned { λ r. ⌜ r ≡ reportWritten g (now (out .entry)) ⌝ }
+    ensures buffer { λ _. ⌜ now (out .exit) ≡ reportLeft g (now (out .entry)) ⌝ }
 {
     let needed = report_length(g);
     if out.len() < needed {

@@ -10,7 +10,8 @@ pub const ROOM: usize = 192;
 
 // Writes the line of a refusal at the front of a buffer, and gives its length.
 pub fn write_refused(number: u64, place: u64, out: &mut [u8; ROOM]) -> usize
-    ensures { λ r. ⌜ (r ≡ length (refusedLine number place)) × (now (out .exit) ≡ writtenOver (refusedLine number place) (now (out .entry))) ⌝ }
+    ensures returned { λ r. ⌜ r ≡ length (refusedLine number place) ⌝ }
+    ensures buffer { λ _. ⌜ now (out .exit) ≡ writtenOver (refusedLine number place) (now (out .entry)) ⌝ }
 {
     let number_at = put_word(out, 0, b"refused ");
     put_pair(out, number_at, number, place)
