@@ -13,17 +13,17 @@ use Rattle.basis.proofs.Tests.{cases}
 use Rattle.basis.proofs.Refusals.{first-here}
 use Rattle.jobfile.specs.Beginning.{beginningLength}
 use Rattle.jobfile.proofs.Beginning.{beginning}
-use Rattle.rembilung.specs.Call.{text, sheetRefusal, inputRefusal, callRefusal}
-use Rattle.console.specs.Printed.{line, refusalOf, printed, printedFrom, Beginnings}
+use Rattle.rembilung.specs.Call.{text, sheetRefusal, inputRefusal}
+use Rattle.console.specs.Printed.{line, printed, printedFrom, Beginnings}
 
 module _ (sheet file : List ℕ) where
   file-beginning : printed sheet (take beginningLength file) ≡ printed sheet file
-  unfolding printed refusalOf callRefusal inputRefusal text
+  unfolding printed inputRefusal text
   file-beginning = rw (beginning .same-job file)
 
   other-length : (length sheet ≡ 502 → ⊥) → printed sheet file ≡ line (sheetLength (length sheet))
-  unfolding printed refusalOf callRefusal inputRefusal sheetRefusal unless
-  other-length h = rw (ne-eqb (length sheet) 502 h, ← first-here (sheetLength (length sheet)) _ (λ e. omega arith), ← first-here (sheetLength (length sheet)) _ (λ e. omega arith))
+  unfolding printed inputRefusal sheetRefusal unless
+  other-length h = rw (ne-eqb (length sheet) 502 h, ← first-here (sheetLength (length sheet)) _ (λ e. omega arith))
 
 suffice : (n : ℕ) (sheet file : List ℕ) → min n 4294967295 ≡ min (length sheet) 4294967295
     → printedFrom n (take 502 sheet) (take beginningLength file) ≡ printed sheet file

@@ -5,20 +5,19 @@ use mathlib.Core.Path.{_≡_, refl, _∙_}
 use mathlib.Core.List.{List}
 use native.Mathlib.Omega.{arith}
 use lib.Dec.{eqb}
-use lib.ListN.{length, length-append, length-replicate}
+use lib.ListN.{length, length-append}
 use lib.Seq.{take-append-seam}
-use borrow.Author.Tests.{eq-eqb, ne-eqb, eqb-true, eqb-false}
+use borrow.Author.Tests.{eq-eqb, ne-eqb, eqb-false}
 use Rattle.basis.specs.Refusal.{number, place}
 use Rattle.basis.specs.declared.Refusal.{Refusal}
 use Rattle.basis.proofs.Tests.{cases}
-use Rattle.basis.proofs.Refusals.{first-nothing}
-use Rattle.basis.proofs.Writing.{room-fits}
 use Rattle.io.specs.Counts.{Counts}
 use Rattle.report.specs.Refused.{refusedLine, writtenOver}
-use Rattle.basis.specs.Writing.{roomRefusal, writtenOr, leftOr}
+use Rattle.basis.specs.Writing.{writtenOr, leftOr}
 use Rattle.rembilung.specs.Code.{codeOf, code, writtenCode}
-use Rattle.rembilung.specs.Call.{text, callRefusal, callCode, callBuffer}
-use Rattle.console.specs.Printed.{line, refusalOf, printed, printedFrom}
+use Rattle.rembilung.specs.Call.{inputRefusal, callRefusal, callCode, callBuffer}
+use Rattle.rembilung.proofs.Room.{text-short, room-for-all}
+use Rattle.console.specs.Printed.{line, printed, printedFrom}
 
 -- r bytes of a buffer are the text, and the others are as they were
 abbrev Answered : ℕ → List ℕ → List ℕ → List ℕ → Type 0
@@ -42,14 +41,9 @@ unfolding codeOf
 code-least r h = omega arith
 
 module _ (sheet file out : List ℕ) (l : length out ≡ 192) where
-  same-refusal : callRefusal sheet file out ≡ refusalOf sheet file
-  unfolding refusalOf callRefusal roomRefusal
-  same-refusal = rw (l, length-replicate)
-
-  -- a report that is not refused has room
-  fits : number (callRefusal sheet file out) ≡ 0 → length (text sheet file) ≤ 192
-  unfolding callRefusal
-  fits h = omega (arith, room-fits (text sheet file) out (first-nothing _ _ h .1))
+  -- 192 bytes have room for every report
+  same-refusal : callRefusal sheet file out ≡ inputRefusal sheet file
+  same-refusal = room-for-all sheet file out (omega arith)
 
   report-printed : callCode sheet file out < 4294967296
       → (callCode sheet file out ≡ length (printed sheet file)) × (callBuffer sheet file out ≡ writtenOver (printed sheet file) out)
@@ -62,7 +56,7 @@ module _ (sheet file out : List ℕ) (l : length out ≡ 192) where
       → (refusedLine (callCode sheet file out / 4294967296) (callCode sheet file out % 4294967296) ≡ printed sheet file) × (callBuffer sheet file out ≡ out)
   unfolding callCode callBuffer writtenOr leftOr codeOf writtenCode printed
   refusal-printed h =
-      cases (eqb (number (callRefusal sheet file out)) 0) (λ t. absurd (omega (arith, rw t at h, fits (eqb-true (number (callRefusal sheet file out)) 0 t))))
+      cases (eqb (number (callRefusal sheet file out)) 0) (λ t. absurd (omega (arith, rw t at h, text-short sheet file)))
       (λ t. rw (← same-refusal, t) (code-line (callRefusal sheet file out), refl))
 
 module _ (n : ℕ) (sheet file out : List ℕ) where

@@ -5,24 +5,20 @@ use Prim.Native.Nat.{ℕ, min}
 use mathlib.Core.Path.{_≡_}
 use mathlib.Core.List.{List}
 use lib.Dec.{eqb}
-use lib.ListN.{length, take, replicate}
+use lib.ListN.{length, take}
 use Rattle.basis.specs.Refusal.{number, place, sheetLength}
 use Rattle.basis.specs.declared.Refusal.{Refusal}
 use Rattle.jobfile.specs.Beginning.{beginningLength}
-use Rattle.rembilung.specs.Call.{text, callRefusal}
+use Rattle.rembilung.specs.Call.{text, inputRefusal}
 use Rattle.report.specs.Refused.{refusedLine}
 
 -- the line of a refusal, a place above 4,294,967,295 being given as that
 unfoldable pub line : Refusal → List ℕ
 line refusal = refusedLine (number refusal) (min (place refusal) 4294967295)
 
--- what is refused by the whole call, whose buffer has 192 bytes
-unfoldable pub refusalOf : List ℕ → List ℕ → Refusal
-refusalOf sheet file = callRefusal sheet file (replicate 192 0)
-
--- the report, or the line of the refusal
+-- the report, or the line of what is refused of the sheet and the file: 8, which is refused of a buffer, is never printed
 unfoldable pub printed : List ℕ → List ℕ → List ℕ
-printed sheet file = cond (eqb (number (refusalOf sheet file)) 0) (text sheet file) (line (refusalOf sheet file))
+printed sheet file = cond (eqb (number (inputRefusal sheet file)) 0) (text sheet file) (line (inputRefusal sheet file))
 
 -- the same from a sheet's length, its first bytes and the file: another length than 502 bytes is refused before anything else
 unfoldable pub printedFrom : ℕ → List ℕ → List ℕ → List ℕ

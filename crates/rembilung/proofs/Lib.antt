@@ -1,4 +1,5 @@
 pub mod Returned
 pub mod Ways
+pub mod Room
 pub mod Shown
 pub mod Demands
