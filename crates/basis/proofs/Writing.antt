@@ -1,13 +1,13 @@
 -- Laws of writing: what is refused stays, what is not is written, and the buffer keeps its length.
 -- Assumes nothing.
-use Prim.Native.Nat.{ℕ, _≤_}
+use Prim.Native.Nat.{ℕ, _≤_, _<_}
 use mathlib.Core.Path.{_≡_, refl}
 use mathlib.Core.List.{List, _++_}
 use native.Mathlib.Omega.{arith}
 use lib.Dec.{leb, leb→le, eqb, lit<}
 use lib.ListN.{length, drop, length-append, length-drop}
-use borrow.Author.Tests.{eq-eqb, ne-eqb, eqb-true, le-leb}
-use Rattle.basis.specs.Refusal.{number, nothing, unless}
+use borrow.Author.Tests.{eq-eqb, ne-eqb, eqb-true, le-leb, lt-leb}
+use Rattle.basis.specs.Refusal.{number, nothing, tooShort, unless}
 use Rattle.basis.specs.declared.Refusal.{Refusal}
 use Rattle.basis.specs.declared.Written.the-variants.{Length, Refused}
 use Rattle.basis.specs.Writing.{roomRefusal, writtenOr, leftOr}
@@ -21,6 +21,10 @@ room-fits text out e = leb→le (length text) (length out) (unless-pass (leb (le
 pub room-nothing : (text out : List ℕ) → length text ≤ length out → roomRefusal text out ≡ nothing
 unfolding roomRefusal unless
 room-nothing text out l = simp (le-leb (length text) (length out) l)
+
+pub room-short : (text out : List ℕ) → length out < length text → roomRefusal text out ≡ tooShort (length text)
+unfolding roomRefusal unless
+room-short text out l = simp (lt-leb (length text) (length out) l)
 
 module _ (r : Refusal) (text out : List ℕ) where
   pub refused-leaves : (number r ≡ 0 → ⊥) → (Refused r ≡ writtenOr r (length text)) × (out ≡ leftOr r text out)

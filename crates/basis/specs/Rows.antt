@@ -20,3 +20,9 @@ pub record Follows (refusal : Refusal) (Row : ℕ → ℕ → Type 0) (None : Ty
   pub row : (n p : ℕ) → Row n p → (0 < n) × (refusal ≡ record { number = n; place = p })
   pub none : None → refusal ≡ nothing
   pub every : None ⊎ Some Row
+
+-- exactly one row applies, or none and the call answers
+pub record Exactly (Row : ℕ → ℕ → Type 0) (Answers : Type 0) : Type 0 where
+  pub every : Answers ⊎ Some Row
+  pub one-row : (n p m q : ℕ) → Row n p → Row m q → (n ≡ m) × (p ≡ q)
+  pub not-both : (n p : ℕ) → Row n p → Answers → ⊥

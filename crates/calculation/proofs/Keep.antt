@@ -9,7 +9,7 @@ use lib.Dec.{eqb, lit<}
 use Rattle.basis.proofs.Tests.{Keeps, both-keep, either-keep, le-keep, eq-keep}
 use Rattle.job.specs.declared.Job.{Job}
 use Rattle.job.specs.Bounds.{Bounds}
-use Rattle.sheet.specs.Sheet.{Stands}
+use Rattle.sheet.specs.Rows.{Stands}
 use Rattle.sheet.specs.StabilityFactor.{over, under}
 use Rattle.sheet.proofs.Falls.{Weaker, weakens}
 use Rattle.section5.specs.Harsher.{Harsher}

@@ -2,7 +2,7 @@
 ghost use mathlib.Core.Path.{_≡_};
 ghost use Prim.Native.Nat.{_*_, _≤_};
 ghost use Rattle.basis.specs.Figure.{Is};
-ghost use Rattle.sheet.specs.Sheet.{Stands};
+ghost use Rattle.sheet.specs.Rows.{Stands};
 ghost use Rattle.calculation.specs.Whole.{columnAt, bears, bends};
 ghost use Rattle.calculation.specs.Division.{limit7, limit8};
 ghost use Rattle.calculation.specs.Bounded.{Proper, IsColumn};

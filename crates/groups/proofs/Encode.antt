@@ -7,9 +7,11 @@ use native.Mathlib.Omega.{arith}
 use lib.Dec.{ltb}
 use lib.ListN.{length, take, drop, getD, length-append, length-drop, drop-of-length-le}
 use lib.Seq.{drop-cons, getD-take, length-take-le}
-use borrow.Author.Tests.{lt-ltb, le-ltb}
+use borrow.Author.Tests.{lt-ltb, le-ltb, ltb-true}
 use Rattle.basis.proofs.Tests.{cases}
 use Rattle.groups.specs.Encode.{groups, encode, encodeAll}
+use Rattle.groups.specs.Decode.{Bytes}
+use Rattle.groups.specs.Rows.{Narrow}
 
 -- numbers of at most f groups before the last are below this
 unfoldable pub cap : ℕ → ℕ
@@ -95,3 +97,24 @@ module _ (ns : List ℕ) (n i : ℕ) (h : n ≤ length ns) where
 
   pub first-few : length (encodeAll (take n ns)) ≤ 5 * n
   first-few = omega (arith, all-few (take n ns), length-take-le n ns h)
+
+-- each group is a byte
+bytes-cons : (b : ℕ) (bs : List ℕ) → b < 256 → Bytes bs → Bytes (b ∷ bs)
+bytes-cons b bs l w zero = l
+bytes-cons b bs l w (suc i) = w i
+
+bytes-append : (a b : List ℕ) → Bytes a → Bytes b → Bytes (a ++ b)
+bytes-append [] b v w = w
+bytes-append (x ∷ a) b v w = bytes-cons x (a ++ b) (v 0) (bytes-append a b (λ i. v (suc i)) w)
+
+groups-bytes : (f n : ℕ) → n < cap f → Bytes (groups f n)
+unfolding groups cap
+groups-bytes zero n h = bytes-cons n [] (omega arith) (λ i. omega arith)
+groups-bytes (suc f) n h =
+    cases (ltb n 128) (λ t. rw t (bytes-cons n [] (omega (arith, ltb-true n 128 t)) (λ i. omega arith)))
+    (λ t. rw t (bytes-cons (n % 128 + 128) (groups f (n / 128)) (omega arith) (groups-bytes f (n / 128) (omega arith))))
+
+pub bytes-all : (ns : List ℕ) → Narrow ns → Bytes (encodeAll ns)
+unfolding encodeAll encode cap
+bytes-all [] w = λ i. omega arith
+bytes-all (n ∷ ns) w = bytes-append (encode n) (encodeAll ns) (groups-bytes 4 n (omega (arith, w .0))) (bytes-all ns (w .1))

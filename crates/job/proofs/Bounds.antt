@@ -1,4 +1,4 @@
--- A job of which nothing is refused has each field in its range.
+-- A job that stands has each field in its range, so that its figures are bounded.
 -- Assumes nothing.
 use mathlib.Core.Bool.{Bool, true, false, cond}
 use Prim.Native.Nat.{ℕ, _≤_}
@@ -8,10 +8,9 @@ use Rattle.basis.specs.Range.{within}
 use Rattle.basis.proofs.Tests.{either-elim, within-le}
 use Rattle.job.specs.declared.Job.{Job}
 use Rattle.job.specs.Ranges.{lbStands, heightStands, shieldStands, geometry, loads, wind, ground, ranges}
-use Rattle.job.specs.Examine.{Stands}
+use Rattle.job.specs.Rows.{Stands}
 use Rattle.job.specs.Rows.{Inside}
 use Rattle.job.specs.Bounds.{Bounds}
-use Rattle.job.proofs.Rows.{stands-sound}
 
 cond-elim : {A : Type 0} (b c d : Bool) → (T c → A) → (T d → A) → T (cond b c d) → A
 cond-elim true c d f g t = f t
@@ -40,14 +39,10 @@ shield-within enclosure shield =
     cond-elim (eqb enclosure 1) _ _ (within-le 1 2000 shield)
     (cond-elim (eqb enclosure 2) _ _ (wider 300 700 1 2000 shield tt tt) (wider 1 1000 1 2000 shield tt tt))
 
--- every field is in its range
-all-inside : (j : Job) → Stands j → (p : ℕ) → Inside j p
-all-inside j h = stands-sound j h .agrees .inside
-
 pub bounds : (j : Job) → Stands j → Bounds j
 unfolding Inside ranges geometry loads wind ground
 bounds j h =
-    let i = all-inside j h in
+    let i = h .agrees .inside in
     record {
       family = within-le 1 2 (j .family) (i 1) .1;
       tube = within-le 1 2 (j .tube) (i 2) .1;

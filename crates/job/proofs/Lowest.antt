@@ -1,4 +1,4 @@
--- Laws of the lowest place at which a test fails.
+-- Laws of a row of tests: the lowest place at which one fails, and another test in the place of one.
 -- Assumes nothing.
 use mathlib.Core.Path.{_≡_, _∙_, refl}
 use mathlib.Core.Bool.{Bool, true, false}
@@ -7,7 +7,7 @@ use mathlib.Core.Logic.{_⊎_, inl, inr, ⊎-elim}
 use Prim.Native.Nat.{ℕ, zero, suc, _+_, _<_}
 use native.Mathlib.Omega.{arith}
 use lib.Dec.{T}
-use lib.ListN.{getD}
+use lib.ListN.{getD, set}
 use Rattle.basis.specs.Rows.{First}
 use Rattle.job.specs.Ranges.{field, lowest}
 
@@ -46,3 +46,11 @@ lowest-every (true ∷ tests) = ⊎-elim (λ h. inl (all h)) (λ f. inr (suc (f 
     later : (k : ℕ) → First (Fails tests) k → First (Fails (true ∷ tests)) (suc k)
     later k f = record { here = f .here; before = none k f }
 lowest-every (false ∷ tests) = inr (0, record { here = λ t. t; before = λ i l. absurd (omega arith) })
+
+-- a row of tests that pass, with another that passes at place k
+pub set-passes : (tests : List Bool) (k : ℕ) (test : Bool) → T test → ((i : ℕ) → T (getD tests i true)) → (i : ℕ) → T (getD (set tests k test) i true)
+set-passes [] k test t h i = tt
+set-passes (x ∷ tests) zero test t h zero = t
+set-passes (x ∷ tests) zero test t h (suc i) = h (suc i)
+set-passes (x ∷ tests) (suc k) test t h zero = h 0
+set-passes (x ∷ tests) (suc k) test t h (suc i) = set-passes tests k test t (λ m. h (suc m)) i

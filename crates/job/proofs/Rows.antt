@@ -7,16 +7,19 @@ use mathlib.Core.Logic.{_⊎_, inl, inr, ⊎-elim}
 use Prim.Native.Nat.{ℕ, zero, suc, _<_}
 use native.Mathlib.Nat.{zero-add}
 use native.Mathlib.Omega.{arith}
+use lib.ListN.{set}
 use lib.Dec.{eqb, leb, ltb, lit<}
 use borrow.Author.Tests.{ltb-true, ltb-false, leb-true, leb-false, eqb-true, eqb-false, lt-ltb, le-ltb, le-leb, lt-leb, eq-eqb, ne-eqb}
 use Rattle.basis.specs.Refusal.{number, nothing, unless}
 use Rattle.basis.specs.Rows.{First, Some, Follows}
 use Rattle.basis.proofs.Tests.{cases, within-le}
 use Rattle.job.specs.declared.Job.{Job}
-use Rattle.job.specs.Ranges.{geometry, ranges, field, lowest, outside}
-use Rattle.job.specs.Examine.{examination, Stands}
-use Rattle.job.specs.Rows.{Inside, Outside, Agrees, Row, Sound, Told}
-use Rattle.job.proofs.Lowest.{lowest-all, lowest-first, lowest-every}
+use Rattle.basis.proofs.Rows.{unrefused}
+use Rattle.job.specs.Ranges.{heightStands, geometry, loads, wind, ground, ranges, field, lowest, outside}
+use Rattle.job.specs.Job.{jobOf, numbers}
+use Rattle.job.specs.Examine.{examination}
+use Rattle.job.specs.Rows.{Inside, Outside, Agrees, Row, Stands, Told}
+use Rattle.job.proofs.Lowest.{lowest-all, lowest-first, lowest-every, set-passes}
 
 module _ (j : Job) where
   none-outside : ((p : ℕ) → Inside j p) → outside j ≡ 0
@@ -45,7 +48,7 @@ module _ (j : Job) where
   row-is n p (Row.thin a f l) = (lit< tt, rw (none-outside (a .inside), le-leb _ _ (a .layers), le-leb _ _ (a .live), ne-eqb (j .family) 1 (λ z. omega arith), le-ltb 180 (j .thickness) l))
   row-is n p (Row.weak a f l m) = (lit< tt, rw (none-outside (a .inside), le-leb _ _ (a .layers), le-leb _ _ (a .live), ne-eqb (j .family) 1 (λ z. omega arith), lt-ltb 180 (j .thickness) l, ne-eqb (j .make) 1 m))
 
-  none-is : Sound j → examination j ≡ nothing
+  none-is : Stands j → examination j ≡ nothing
   unfolding examination unless
   none-is s =
       let a = s .agrees in
@@ -54,11 +57,11 @@ module _ (j : Job) where
       (λ t. let w = s .wall (single (a .inside 1) (eqb-false (j .family) 1 t)) in rw (t, lt-ltb 180 (j .thickness) (w .0), eq-eqb (j .make) 1 (w .1)) refl))
 
   -- by the facts of the table, in their order
-  every-is : Sound j ⊎ Some (Row j)
+  every-is : Stands j ⊎ Some (Row j)
   unfolding Inside Outside
   every-is = ⊎-elim inside (λ f. inr (3, (f .0, Row.outside (f .0) (f .1)))) (lowest-every (true ∷ ranges j))
     where
-      walls : Agrees j → (j .family ≡ 1 → ⊥) → Sound j ⊎ Some (Row j)
+      walls : Agrees j → (j .family ≡ 1 → ⊥) → Stands j ⊎ Some (Row j)
       walls a f =
           let s = single (a .inside 1) f in
           cases (ltb 180 (j .thickness))
@@ -67,13 +70,13 @@ module _ (j : Job) where
           (λ m. inr (5, (21, Row.weak a s (ltb-true 180 (j .thickness) t) (eqb-false (j .make) 1 m)))))
           (λ t. inr (5, (20, Row.thin a s (ltb-false 180 (j .thickness) t))))
 
-      agreeing : Agrees j → Sound j ⊎ Some (Row j)
+      agreeing : Agrees j → Stands j ⊎ Some (Row j)
       agreeing a =
           cases (eqb (j .family) 1)
           (λ t. inl (record { agrees = a; wall = λ z. let e = eqb-true (j .family) 1 t in absurd (omega arith) }))
           (λ t. walls a (eqb-false (j .family) 1 t))
 
-      inside : ((p : ℕ) → Inside j p) → Sound j ⊎ Some (Row j)
+      inside : ((p : ℕ) → Inside j p) → Stands j ⊎ Some (Row j)
       inside i =
           cases (leb (j .working) (j .boarded))
           (λ t. cases (leb (j .q) (j .total))
@@ -81,17 +84,24 @@ module _ (j : Job) where
           (λ u. inr (4, (12, Row.live i (leb-true (j .working) (j .boarded) t) (leb-false (j .q) (j .total) u)))))
           (λ t. inr (4, (10, Row.layers i (leb-false (j .working) (j .boarded) t))))
 
-  follows : Follows (examination j) (Row j) (Sound j)
+  follows : Follows (examination j) (Row j) (Stands j)
   follows = record { row = row-is; none = none-is; every = every-is }
 
--- a job of which nothing is refused is one to which no row applies, and the other way round
-pub stands-sound : (j : Job) → Stands j → Sound j
-unfolding Stands
-stands-sound j h = ⊎-elim (λ s. s) (λ r. let e = row-is j _ _ (r .1 .1) in absurd (omega (arith, e .0, ap number (e .1)))) (every-is j)
+-- a job of which nothing is refused stands, and the other way round
+pub unrefused-stands : (j : Job) → number (examination j) ≡ 0 → Stands j
+unrefused-stands j = unrefused (follows j)
 
-pub sound-stands : (j : Job) → Sound j → Stands j
-unfolding Stands
-sound-stands j s = ap number (none-is j s)
+pub stands-unrefused : (j : Job) → Stands j → number (examination j) ≡ 0
+stands-unrefused j s = ap number (none-is j s)
+
+-- a job that stands does so at every height that field 7 allows
+pub stands-at : (j : Job) (H : ℕ) → Stands j → Inside (jobOf (set (numbers j) 6 H)) 7 → Stands (jobOf (set (numbers j) 6 H))
+unfolding jobOf numbers Inside ranges geometry loads wind ground
+stands-at j H s i =
+    record {
+      agrees = record { inside = set-passes (true ∷ ranges j) 7 (heightStands (j .family) H) i (s .agrees .inside); layers = s .agrees .layers; live = s .agrees .live };
+      wall = s .wall;
+    }
 
 pub told : Told
 told = record { told = follows }

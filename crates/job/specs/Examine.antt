@@ -1,9 +1,8 @@
 -- Refusals 3, 4 and 5: a field outside its range, two fields that contradict each other, a wall unfit for a single row.
 -- Assumes nothing.
 use mathlib.Core.Bool.{_||_}
-use mathlib.Core.Path.{_≡_}
 use lib.Dec.{leb, ltb, eqb}
-use Rattle.basis.specs.Refusal.{number, unless, nothing, fieldRange, contradiction, unfitWall}
+use Rattle.basis.specs.Refusal.{unless, nothing, fieldRange, contradiction, unfitWall}
 use Rattle.basis.specs.declared.Refusal.{Refusal}
 use Rattle.job.specs.declared.Job.{Job}
 use Rattle.job.specs.Ranges.{outside}
@@ -16,7 +15,3 @@ examination j =
     (unless (eqb (j .family) 1 || ltb 180 (j .thickness)) (unfitWall 20)
     (unless (eqb (j .family) 1 || eqb (j .make) 1) (unfitWall 21)
     nothing))))
-
--- nothing of the job is refused
-unfoldable pub Stands : Job → Type 0
-Stands j = number (examination j) ≡ 0

@@ -37,10 +37,10 @@ pub data Row (j : Job) : ℕ → ℕ → Type 0 where
   weak : Agrees j → j .family ≡ 2 → 180 < j .thickness → (j .make ≡ 1 → ⊥) → Row j 5 21
 
 -- none applies: the job can be judged
-pub record Sound (j : Job) : Type 0 where
+pub record Stands (j : Job) : Type 0 where
   pub agrees : Agrees j
   pub wall : j .family ≡ 2 → (180 < j .thickness) × (j .make ≡ 1)
 
 -- what is refused of a job is what the table says
 pub record Told : Type 0 where
-  pub told : (j : Job) → Follows (examination j) (Row j) (Sound j)
+  pub told : (j : Job) → Follows (examination j) (Row j) (Stands j)

@@ -12,7 +12,9 @@ use Rattle.basis.proofs.Tests.{cases}
 use Rattle.basis.proofs.Refusals.{first-nothing}
 use Rattle.job.specs.declared.Job.{Job}
 use Rattle.job.specs.Job.{jobOf}
-use Rattle.job.specs.Examine.{examination, Stands}
+use Rattle.job.specs.Examine.{examination}
+use Rattle.job.specs.Rows.{Stands}
+use Rattle.job.proofs.Rows.{unrefused-stands}
 use Rattle.groups.specs.Numbers.{values, numbersIn}
 use Rattle.groups.specs.declared.ReadNumbers.{ReadNumbers}
 use Rattle.jobfile.specs.Read.{jobNumbers, readRefusal, jobIn}
@@ -49,8 +51,8 @@ read-accepted file j e =
 
 -- and that job stands
 pub accepted-stands : (file : List ℕ) (j : Job) → jobIn file ≡ Accepted j → Stands j
-unfolding readRefusal Stands
-accepted-stands file j e = let a = read-accepted file j e in rw (← a .1) (first-nothing _ _ (a .0) .1)
+unfolding readRefusal
+accepted-stands file j e = let a = read-accepted file j e in unrefused-stands j (rw (← a .1) (first-nothing _ _ (a .0) .1))
 
 -- a file that does not has a refusal
 pub refused-number : (file : List ℕ) {r : Refusal} → jobIn file ≡ Refused r → number r ≡ 0 → ⊥

@@ -13,7 +13,9 @@ use Rattle.basis.proofs.Refusals.{first-nothing}
 use Rattle.basis.proofs.Writing.{done-leaves, written-length}
 use Rattle.job.specs.declared.Job.{Job}
 use Rattle.job.specs.Job.{numbers}
-use Rattle.job.specs.Examine.{examination, Stands}
+use Rattle.job.specs.Examine.{examination}
+use Rattle.job.specs.Rows.{Stands}
+use Rattle.job.proofs.Rows.{stands-unrefused}
 use Rattle.job.proofs.Numbers.{job-numbers, numbers-job, numbers-long}
 use Rattle.groups.specs.Decode.{Bytes}
 use Rattle.groups.specs.Numbers.{extra, values}
@@ -39,8 +41,8 @@ module _ (j : Job) (h : Stands j) (rest : List ℕ) where
       rw (file-values, job-numbers, d)
 
 job-back : (j : Job) → Stands j → jobIn (fileOf j) ≡ Accepted j
-unfolding extra first Stands
-job-back j h = sym (rw (file-values j h [], job-numbers, append-nil) at (read-done (fileOf j ++ []) (examination j) (file-refusal j h []) h))
+unfolding extra first
+job-back j h = sym (rw (file-values j h [], job-numbers, append-nil) at (read-done (fileOf j ++ []) (examination j) (file-refusal j h []) (stands-unrefused j h)))
 
 extra-refused : (j : Job) (b : ℕ) (bs : List ℕ) → Stands j → jobIn (fileOf j ++ b ∷ bs) ≡ Refused (trailing (length (fileOf j)))
 unfolding extra first

@@ -6,7 +6,7 @@ use native.Mathlib.Omega.{arith}
 use lib.ListN.{length}
 use Rattle.job.specs.declared.Job.{Job}
 use Rattle.job.specs.Job.{numbers}
-use Rattle.job.specs.Examine.{Stands}
+use Rattle.job.specs.Rows.{Stands}
 use Rattle.job.proofs.Bounds.{bounds}
 use Rattle.groups.specs.Rows.{Narrow}
 use Rattle.groups.proofs.Encode.{cap}

@@ -10,7 +10,9 @@ use Rattle.basis.proofs.Refusals.{first-rest, first-nothing}
 use Rattle.basis.proofs.Writing.{room-fits, room-nothing, left-length}
 use Rattle.job.specs.declared.Job.{Job}
 use Rattle.job.specs.Job.{numbers}
-use Rattle.job.specs.Examine.{examination, Stands}
+use Rattle.job.specs.Examine.{examination}
+use Rattle.job.specs.Rows.{Stands}
+use Rattle.job.proofs.Rows.{unrefused-stands, stands-unrefused}
 use Rattle.groups.specs.Encode.{encodeAll}
 use Rattle.jobfile.specs.Read.{jobNumbers}
 use Rattle.jobfile.specs.Write.{fileOf, writeRefusal, fileLeft}
@@ -21,12 +23,12 @@ file-is j e = rw e
 
 module _ (j : Job) (out : List ℕ) where
   pub write-fits : number (writeRefusal j out) ≡ 0 → Stands j × (length (fileOf j) ≤ length out)
-  unfolding writeRefusal Stands
-  write-fits h = let n = first-nothing _ _ h in (n .0, room-fits _ _ (n .1))
+  unfolding writeRefusal
+  write-fits h = let n = first-nothing _ _ h in (unrefused-stands j (n .0), room-fits _ _ (n .1))
 
   pub write-nothing : Stands j → length (fileOf j) ≤ length out → number (writeRefusal j out) ≡ 0
-  unfolding writeRefusal Stands
-  write-nothing h l = rw (← first-rest (examination j) (roomRefusal (fileOf j) out) h, room-nothing (fileOf j) out l) refl
+  unfolding writeRefusal
+  write-nothing h l = rw (← first-rest (examination j) (roomRefusal (fileOf j) out) (stands-unrefused j h), room-nothing (fileOf j) out l) refl
 
   -- the length of the buffer stays
   pub file-left-length : length (fileLeft j out) ≡ length out

@@ -7,7 +7,7 @@ use lib.ListN.{length, take, drop}
 use Rattle.basis.specs.Refusal.{trailing}
 use Rattle.basis.specs.declared.Written.the-variants.{Length}
 use Rattle.job.specs.declared.Job.{Job}
-use Rattle.job.specs.Examine.{Stands}
+use Rattle.job.specs.Rows.{Stands}
 use Rattle.groups.specs.Decode.{Bytes}
 use Rattle.jobfile.specs.Read.{jobIn}
 use Rattle.jobfile.specs.Write.{fileOf, greatestLength, fileWritten, fileLeft}

@@ -8,9 +8,12 @@ use borrow.Author.Tests.{eq-eqb, ne-eqb}
 use Rattle.basis.specs.Refusal.{number}
 use Rattle.basis.specs.declared.Refusal.{Refusal}
 use Rattle.basis.proofs.Refusals.{first-nothing}
+use Rattle.basis.proofs.Rows.{then-rest}
 use Rattle.job.specs.declared.Job.{Job}
-use Rattle.job.specs.Examine as Job
-use Rattle.sheet.specs.Sheet as Sheet
+use Rattle.job.specs.Rows.{Stands as JobStands}
+use Rattle.job.proofs.Rows as Job
+use Rattle.sheet.specs.Rows.{Stands as SheetStands}
+use Rattle.sheet.proofs.Rows as Sheet
 use Rattle.section5.specs.declared.Heights.{Heights}
 use Rattle.section5.specs.declared.Judgement.{Judgement}
 use Rattle.section5.specs.Section5.{judgement}
@@ -21,13 +24,17 @@ use Rattle.calculation.proofs.Same.{judgement-same}
 use Rattle.judge.specs.Answer.{refusal, Accepted, blank, answer}
 
 module _ (s : List ℕ) (j : Job) where
-  pub sheet-stands : Accepted s j → Sheet.Stands s
-  unfolding Accepted refusal Sheet.Stands
-  sheet-stands a = first-nothing (Sheet.examination s) (Job.examination j) a .0
+  pub sheet-stands : Accepted s j → SheetStands s
+  unfolding Accepted refusal
+  sheet-stands a = Sheet.unrefused-stands s (first-nothing _ _ a .0)
 
-  pub job-stands : Accepted s j → Job.Stands j
-  unfolding Accepted refusal Job.Stands
-  job-stands a = first-nothing (Sheet.examination s) (Job.examination j) a .1
+  pub job-stands : Accepted s j → JobStands j
+  unfolding Accepted refusal
+  job-stands a = Job.unrefused-stands j (first-nothing _ _ a .1)
+
+  pub stands-accepted : SheetStands s → JobStands j → Accepted s j
+  unfolding Accepted refusal
+  stands-accepted a b = ap number (then-rest (Sheet.told .told s) _ a ∙ Job.told .told j .none b)
 
   pub accepted-judgement : Accepted s j → (answer s j) .judgement ≡ judgement j s
   unfolding Accepted answer
@@ -46,7 +53,7 @@ module _ (s : List ℕ) (j : Job) where
     unfolding Accepted
     accepted h = sym (ap number e) ∙ h
 
-    pub ready : number r ≡ 0 → Sheet.Stands s × Job.Stands j
+    pub ready : number r ≡ 0 → SheetStands s × JobStands j
     ready h = (sheet-stands (accepted h), job-stands (accepted h))
 
   -- the parts of a judgement, as the code works them out

@@ -1,8 +1,8 @@
 // Judging a job under a column sheet: refused by 1 to 5, or judged by section 5.
 ghost use mathlib.Core.Path.{_≡_};
 ghost use Rattle.job.specs.Bounds.{Bounds};
-ghost use Rattle.job.specs.Examine.{Stands as JobStands};
-ghost use Rattle.sheet.specs.Sheet.{Stands};
+ghost use Rattle.job.specs.Rows.{Stands as JobStands};
+ghost use Rattle.sheet.specs.Rows.{Stands};
 ghost use Rattle.section5.specs.Section5.{judgement};
 ghost use Rattle.judge.specs.Answer.{answer, blank};
 use basis::Refusal;

@@ -12,6 +12,8 @@ use Rattle.basis.specs.Writing.{roomRefusal, writtenOr, leftOr}
 use Rattle.basis.proofs.Refusals.{first-here, first-rest}
 use Rattle.job.specs.declared.Job.{Job}
 use Rattle.sheet.specs.Sheet as Sheet
+use Rattle.sheet.specs.Rows.{Stands}
+use Rattle.sheet.proofs.Rows.{unrefused-stands}
 use Rattle.section5.specs.Section5.{judgement}
 use Rattle.jobfile.specs.Read.{jobIn}
 use Rattle.jobfile.specs.declared.ReadJob.the-variants.{Accepted, Refused}
@@ -21,9 +23,8 @@ use Rattle.rembilung.specs.Code.{code, writtenCode}
 use Rattle.rembilung.specs.Call.{entriesOf, refusalIn, reportIn, text, sheetRefusal, inputRefusal, callRefusal, callCode, callBuffer}
 
 -- a sheet of which nothing is refused stands
-pub sheet-accepted : (entries : List ℕ) {r : Refusal} → r ≡ Sheet.examination entries → number r ≡ 0 → Sheet.Stands entries
-unfolding Sheet.Stands
-sheet-accepted entries e h = sym (ap number e) ∙ h
+pub sheet-accepted : (entries : List ℕ) {r : Refusal} → r ≡ Sheet.examination entries → number r ≡ 0 → Stands entries
+sheet-accepted entries e h = unrefused-stands entries (sym (ap number e) ∙ h)
 
 module _ (sheet file out : List ℕ) where
   -- a refusal, and the buffer as it was
@@ -49,9 +50,9 @@ module _ (sheet file out : List ℕ) where
     unfolding inputRefusal
     bad-sheet {r} e h = refused (rw (sheet-is, ← e) (first-here r _ h)) h
 
-    module _ (s : Sheet.Stands (entriesOf sheet)) where
+    module _ (s : number (Sheet.examination (entriesOf sheet)) ≡ 0) where
       later : inputRefusal sheet file ≡ refusalIn (jobIn file)
-      unfolding inputRefusal Sheet.Stands
+      unfolding inputRefusal
       later = sym (first-rest (sheetRefusal sheet) _ (ap number sheet-is ∙ s))
 
       bad-file : {r : Refusal} → jobIn file ≡ Refused r → (code r ≡ callCode sheet file out) × (out ≡ callBuffer sheet file out)
@@ -65,11 +66,11 @@ module _ (sheet file out : List ℕ) where
 
     -- the same with the entries that the code has read
     module _ {entries : List ℕ} {r : Refusal} (n : entries ≡ entriesOf sheet) (e : r ≡ Sheet.examination entries) (h : number r ≡ 0) where
-      stands : Sheet.Stands (entriesOf sheet)
-      stands = sheet-accepted _ (e ∙ ap Sheet.examination n) h
+      unrefused : number (Sheet.examination (entriesOf sheet)) ≡ 0
+      unrefused = sym (ap number (e ∙ ap Sheet.examination n)) ∙ h
 
       pub file-way : {x : Refusal} {c : ℕ} → jobIn file ≡ Refused x → c ≡ code x → (c ≡ callCode sheet file out) × (out ≡ callBuffer sheet file out)
-      file-way f g = let b = bad-file stands f in (g ∙ b .0, b .1)
+      file-way f g = let b = bad-file unrefused f in (g ∙ b .0, b .1)
 
       pub report-way : {j : Job} {c : ℕ} {after : List ℕ} → jobIn file ≡ Accepted j → c ≡ writtenCode (reportWritten (judgement j entries) out) → after ≡ reportLeft (judgement j entries) out → (c ≡ callCode sheet file out) × (after ≡ callBuffer sheet file out)
-      report-way f g a = let b = reported stands f in (rw n at g ∙ b .0, rw n at a ∙ b .1)
+      report-way f g a = let b = reported unrefused f in (rw n at g ∙ b .0, rw n at a ∙ b .1)

@@ -1,7 +1,7 @@
 // The C interface: the whole call, and job files for a host that keys numbers in.
 ghost use mathlib.Core.Path.{_≡_};
-ghost use Rattle.job.specs.Examine.{Stands as JobStands};
-ghost use Rattle.sheet.specs.Sheet.{Stands};
+ghost use Rattle.job.specs.Rows.{Stands as JobStands};
+ghost use Rattle.sheet.specs.Rows.{Stands};
 ghost use Rattle.section5.specs.Section5.{judgement};
 ghost use Rattle.report.specs.Report.{reportWritten, reportLeft};
 ghost use Rattle.rembilung.specs.Code.{code, writtenCode};

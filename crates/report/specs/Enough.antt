@@ -4,7 +4,7 @@ use Prim.Native.Nat.{ℕ, _≤_}
 use mathlib.Core.List.{List}
 use lib.ListN.{length}
 use Rattle.job.specs.declared.Job.{Job}
-use Rattle.job.specs.Examine.{Stands}
+use Rattle.job.specs.Rows.{Stands}
 use Rattle.section5.specs.Section5.{judgement}
 use Rattle.report.specs.Report.{report}
 

@@ -1,4 +1,4 @@
--- A sheet of which nothing is refused has 251 entries that fall, from at most 1,000 to at least 117; its stability factor weakens with the slenderness.
+-- A sheet that stands has 251 entries that fall, from at most 1,000 to at least 117; its stability factor weakens with the slenderness.
 -- Assumes nothing.
 use mathlib.Core.Path.{_≡_, refl}
 use mathlib.Core.Bool.{Bool, true, false, cond}
@@ -6,15 +6,14 @@ use mathlib.Core.List.{List}
 use Prim.Native.Nat.{ℕ, zero, suc, _+_, _*_, _-_, _≤_, _<_}
 use native.Mathlib.Nat.{add-zero, add-suc, le-refl, le-trans, mul-le-mul, mul-le-mul-left, mul-le-mul-right, add-sub-of-le}
 use native.Mathlib.Omega.{arith}
-use lib.ListN.{length, getD}
+use lib.ListN.{getD}
 use lib.Dec.{ltb, leb, lit<, lit≤}
 use borrow.Author.Tests.{ltb-true, ltb-false, leb-true, leb-false}
 use Rattle.basis.proofs.Order.{mono}
 use Rattle.basis.proofs.Tests.{cases}
-use Rattle.sheet.specs.Sheet.{Stands}
+use Rattle.sheet.specs.Rows.{Stands}
 use Rattle.sheet.specs.Rows.{Faulty}
 use Rattle.sheet.specs.StabilityFactor.{over, under}
-use Rattle.sheet.proofs.Rows.{stands-sound}
 
 -- where none of the entries up to m is greater than the one before it, a later one is no greater
 pub falls-from : (s : List ℕ) (m : ℕ) → ((k : ℕ) → suc k ≤ m → getD s (suc k) 0 ≤ getD s k 0) → {i k : ℕ} → i ≤ k → k ≤ m → getD s k 0 ≤ getD s i 0
@@ -25,26 +24,20 @@ falls-from s m next {i} {k} l u = rw (add-sub-of-le l) at (after (k - i) i (omeg
     after (suc n) i l = rw add-suc (le-trans (next (i + n) (omega arith)) (after n i (omega arith)))
 
 module _ (s : List ℕ) (h : Stands s) where
-  pub sheet-long : length s ≡ 251
-  sheet-long = stands-sound s h .long
-
-  sound : (k : ℕ) → k ≤ 250 → Faulty s k → ⊥
-  sound = stands-sound s h .entries
-
   entry-pos : (k : ℕ) → k ≤ 250 → 0 < getD s k 0
-  entry-pos k l = cases (ltb 0 (getD s k 0)) (ltb-true 0 (getD s k 0)) (λ t. let u = ltb-false 0 (getD s k 0) t in absurd (sound k l (Faulty.zero (omega arith))))
+  entry-pos k l = cases (ltb 0 (getD s k 0)) (ltb-true 0 (getD s k 0)) (λ t. let u = ltb-false 0 (getD s k 0) t in absurd (h .entries k l (Faulty.zero (omega arith))))
 
   entry-most : (k : ℕ) → k ≤ 250 → getD s k 0 ≤ 1000
-  entry-most k l = cases (leb (getD s k 0) 1000) (leb-true (getD s k 0) 1000) (λ t. absurd (sound k l (Faulty.great (leb-false (getD s k 0) 1000 t))))
+  entry-most k l = cases (leb (getD s k 0) 1000) (leb-true (getD s k 0) 1000) (λ t. absurd (h .entries k l (Faulty.great (leb-false (getD s k 0) 1000 t))))
 
   pub entry-last : 117 ≤ getD s 250 0
-  entry-last = cases (leb 117 (getD s 250 0)) (leb-true 117 (getD s 250 0)) (λ t. absurd (sound 250 (lit≤ tt) (Faulty.low refl (leb-false 117 (getD s 250 0) t))))
+  entry-last = cases (leb 117 (getD s 250 0)) (leb-true 117 (getD s 250 0)) (λ t. absurd (h .entries 250 (lit≤ tt) (Faulty.low refl (leb-false 117 (getD s 250 0) t))))
 
   entry-next : (k : ℕ) → suc k ≤ 250 → getD s (suc k) 0 ≤ getD s k 0
   entry-next k l =
       let e : suc k - 1 ≡ k = omega arith in
       cases (leb (getD s (suc k) 0) (getD s k 0)) (leb-true (getD s (suc k) 0) (getD s k 0))
-      (λ t. absurd (sound (suc k) l (Faulty.rises (omega arith) (rw e (leb-false (getD s (suc k) 0) (getD s k 0) t)))))
+      (λ t. absurd (h .entries (suc k) l (Faulty.rises (omega arith) (rw e (leb-false (getD s (suc k) 0) (getD s k 0) t)))))
 
   pub entry-falls : {i k : ℕ} → i ≤ k → k ≤ 250 → getD s k 0 ≤ getD s i 0
   entry-falls = falls-from s 250 entry-next

@@ -1,9 +1,9 @@
 -- What is refused of a sheet is what the table says: row by row, and where none applies.
 -- Assumes nothing.
-use mathlib.Core.Path.{_≡_, refl, ap}
+use mathlib.Core.Path.{_≡_, refl}
 use mathlib.Core.Bool.{not, _&&_, _||_}
 use mathlib.Core.List.{List}
-use mathlib.Core.Logic.{_⊎_, inl, inr, ⊎-elim}
+use mathlib.Core.Logic.{_⊎_, inl, inr}
 use Prim.Native.Nat.{ℕ, _-_, _≤_, _<_}
 use native.Mathlib.Nat.{zero-add}
 use native.Mathlib.Omega.{arith}
@@ -14,9 +14,10 @@ use Rattle.basis.specs.Range.{within}
 use Rattle.basis.specs.Refusal.{number, nothing, unless}
 use Rattle.basis.specs.Rows.{First, Some, Follows}
 use Rattle.basis.proofs.Tests.{cases, holds, both-left, both-right, either-elim, either-false, within-le}
+use Rattle.basis.proofs.Rows.{unrefused}
 use Rattle.basis.proofs.Searches.{firstFail-never, firstFail-fails, firstFail-passes}
-use Rattle.sheet.specs.Sheet.{stands, entryStands, fault, examination, Stands}
-use Rattle.sheet.specs.Rows.{Faulty, Row, Sound, Told}
+use Rattle.sheet.specs.Sheet.{stands, entryStands, fault, examination}
+use Rattle.sheet.specs.Rows.{Faulty, Row, Stands, Told}
 
 module _ (s : List ℕ) where
   -- an entry is faulty, or it stands
@@ -78,11 +79,11 @@ module _ (s : List ℕ) where
   row-is n p (Row.long h) = (lit< tt, rw (ne-eqb (length s) 251 h))
   row-is n p (Row.entry k l u f) = let e = found k u f in (lit< tt, rw (l, ne-eqb (fault s) 251 (λ z. omega arith), e))
 
-  none-is : Sound s → examination s ≡ nothing
+  none-is : Stands s → examination s ≡ nothing
   unfolding examination unless
   none-is h = rw (h .long, none-found (h .entries)) refl
 
-  every-is : Sound s ⊎ Some (Row s)
+  every-is : Stands s ⊎ Some (Row s)
   every-is =
       cases (eqb (length s) 251)
       (λ l. let e = eqb-true (length s) 251 l in
@@ -91,13 +92,12 @@ module _ (s : List ℕ) where
       (λ t. let u = ltb-false (fault s) 251 t in inl (record { long = e; entries = λ k m. passes k (omega arith) })))
       (λ l. inr (1, (length s, Row.long (eqb-false (length s) 251 l))))
 
-  follows : Follows (examination s) (Row s) (Sound s)
+  follows : Follows (examination s) (Row s) (Stands s)
   follows = record { row = row-is; none = none-is; every = every-is }
 
--- a sheet of which nothing is refused is one to which no row applies
-pub stands-sound : (s : List ℕ) → Stands s → Sound s
-unfolding Stands
-stands-sound s h = ⊎-elim (λ a. a) (λ r. let e = row-is s _ _ (r .1 .1) in absurd (omega (arith, e .0, ap number (e .1)))) (every-is s)
+-- a sheet of which nothing is refused stands
+pub unrefused-stands : (s : List ℕ) → number (examination s) ≡ 0 → Stands s
+unrefused-stands s = unrefused (follows s)
 
 pub told : Told
 told = record { told = follows }

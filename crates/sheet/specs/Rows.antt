@@ -22,10 +22,10 @@ pub data Row (sheet : List ℕ) : ℕ → ℕ → Type 0 where
   entry : (k : ℕ) → length sheet ≡ 251 → k ≤ 250 → First (Faulty sheet) k → Row sheet 2 k
 
 -- none applies: the sheet can be read
-pub record Sound (sheet : List ℕ) : Type 0 where
+pub record Stands (sheet : List ℕ) : Type 0 where
   pub long : length sheet ≡ 251
   pub entries : (k : ℕ) → k ≤ 250 → Faulty sheet k → ⊥
 
 -- what is refused of a sheet is what the table says
 pub record Told : Type 0 where
-  pub told : (sheet : List ℕ) → Follows (examination sheet) (Row sheet) (Sound sheet)
+  pub told : (sheet : List ℕ) → Follows (examination sheet) (Row sheet) (Stands sheet)

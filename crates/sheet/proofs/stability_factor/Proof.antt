@@ -9,9 +9,9 @@ use borrow.Author.Needs.{needs}
 use borrow.Author.Tests.{le-leb, lt-leb}
 use Rattle.basis.proofs.Fits.{fits-below}
 use Rattle.basis.proofs.Tests.{cond-below}
-use Rattle.sheet.specs.Sheet.{Stands}
+use Rattle.sheet.specs.Rows.{Stands}
 use Rattle.sheet.specs.StabilityFactor.{over, under, Reading}
-use Rattle.sheet.proofs.Falls.{sheet-long, stability-within}
+use Rattle.sheet.proofs.Falls.{stability-within}
 use Rattle.sheet.proofs.stability_factor.Statement.{statement}
 use Rattle.sheet.proofs.stability_factor.Tie as tie
 
@@ -30,7 +30,7 @@ stability-factor-spec =
     tie.close
     (tie.spec
     (λ c. search needs)  -- mul-wide
-    (λ c. omega (arith, sheet-long _ (c .before .before .before .pre .0)))  -- shared-slice-read-wide
+    (λ c. omega (arith, c .before .before .before .pre .0 .long))  -- shared-slice-read-wide
     (λ c κs. search needs)  -- wide-requires
     (λ c. search needs)  -- cast-t9
     (λ c.
