@@ -1,77 +1,170 @@
 -- The three demands, proved.
 -- Assumes nothing.
-use mathlib.Core.Path.{_≡_, refl, sym, ap, _∙_}
-use mathlib.Core.List.{List}
-use Prim.Native.Nat.{ℕ, _<_}
-use lib.Dec.{eqb, lit<}
-use lib.ListN.{length}
-use borrow.Author.Tests.{eq-eqb, ne-eqb}
-use Rattle.basis.specs.Refusal.{number}
-use Rattle.basis.specs.Writing as Writing
-use Rattle.basis.proofs.Refusals.{first-nothing, first-rest, unless-pass}
+use mathlib.Core.Path.{_≡_, ap, _∙_}
+use mathlib.Core.List.{List, _++_}
+use mathlib.Core.Logic.{_↔_}
+use Prim.Native.Nat.{ℕ, _/_, _≤_, _<_}
+use native.Mathlib.Omega.{arith}
+use lib.Dec.{T, lit<}
+use lib.ListN.{length, getD, take, drop, set, length-set}
+use lib.Seq.{take-append-seam}
+use Rattle.basis.proofs.Rows.{exactly}
 use Rattle.job.specs.declared.Job.{Job}
 use Rattle.job.specs.Job.{jobOf, numbers}
-use Rattle.job.specs.Examine as Job
+use Rattle.job.specs.Rows.{Inside, Stands}
 use Rattle.job.proofs.Numbers.{numbers-job}
-use Rattle.sheet.specs.Sheet.{examination}
-use Rattle.section5.specs.Section5.{checks, judgement}
-use Rattle.judge.specs.Answer.{Accepted, refusal}
-use Rattle.judge.specs.Demand3 as Judging
-use Rattle.judge.proofs.Demand.{demand3}
-use Rattle.judge.proofs.Ways.{accepted-judgement}
-use Rattle.jobfile.specs.Read.{readRefusal, jobIn}
-use Rattle.jobfile.specs.Write as Write
-use Rattle.jobfile.specs.declared.ReadJob.the-variants as Read
-use Rattle.jobfile.proofs.Reading.{accepted-stands}
-use Rattle.jobfile.proofs.RoundTrip.{round-trip}
+use Rattle.job.proofs.Rows.{stands-at}
+use Rattle.groups.specs.Decode.{Bytes}
+use Rattle.groups.specs.Encode.{encodeAll}
+use Rattle.groups.proofs.Encode.{bytes-all}
 use Rattle.report.specs.Report.{report}
-use Rattle.rembilung.specs.Code.{codeOf, writtenCode}
-use Rattle.rembilung.specs.Call.{entriesOf, refusalIn, reportIn, text, sheetRefusal, inputRefusal, callRefusal, callCode, callBuffer, readCode, readBuffer}
-use Rattle.rembilung.specs.Shown.{verdictShown}
+use Rattle.section5.specs.Section5.{checks, verdicts, stability, poles, heights, judgement}
+use Rattle.section5.specs.declared.Height.{Height}
+use Rattle.section5.specs.declared.Height.the-variants.{None, At}
+use Rattle.section5.specs.Poles.{NoHigher, UpTo, withHeight}
+use Rattle.section5.proofs.Poles.{poles-are-verdicts}
+use Rattle.section5.specs.Harsher.{Harsher}
+use Rattle.judge.specs.Answer.{Accepted}
+use Rattle.judge.specs.Demand3.{rank}
+use Rattle.judge.specs.Demand3 as Judging
+use Rattle.judge.proofs.Ways.{stands-accepted, accepted-judgement}
+use Rattle.judge.proofs.Demand.{demand3}
+use Rattle.rembilung.specs.Call.{entriesOf, callCode, callBuffer, writeCode, writeBuffer, readCode, readBuffer}
+use Rattle.rembilung.specs.Table.{Reads, Judges, Answers, reportOf}
+use Rattle.rembilung.specs.Header.{reportMost}
+use Rattle.rembilung.specs.Shown.{verdictShown, heightShown}
 use Rattle.rembilung.specs.Demands.{Demand1, Demand2, Demands}
-use Rattle.rembilung.proofs.Shown.{verdict-shown}
+use Rattle.rembilung.proofs.Table.{read-follows, stands-reads, write-follows, entries-stand, call-follows}
+use Rattle.rembilung.proofs.Answered.{call-refused, call-answered, write-refused, write-answered, read-refused, read-answered}
+use Rattle.rembilung.proofs.Header.{write-halves, read-halves, header}
+use Rattle.rembilung.proofs.Shown.{verdict-shown, height-shown}
 
 demand1 : Demand1
-unfolding callCode callBuffer Write.fileWritten Write.fileLeft Writing.writtenOr Writing.leftOr codeOf writtenCode jobIn readCode readBuffer numbers
 demand1 =
     record {
-      refused = λ sheet file out h. (simp (ne-eqb (number (callRefusal sheet file out)) 0 h), simp (ne-eqb (number (callRefusal sheet file out)) 0 h));
-      answered = λ sheet file out h. (simp (eq-eqb (number (callRefusal sheet file out)) 0 h), simp (eq-eqb (number (callRefusal sheet file out)) 0 h));
-      write-refused = λ j out h. (simp (ne-eqb (number (Write.writeRefusal j out)) 0 h), simp (ne-eqb (number (Write.writeRefusal j out)) 0 h));
-      write-answered = λ j out h. (simp (eq-eqb (number (Write.writeRefusal j out)) 0 h), simp (eq-eqb (number (Write.writeRefusal j out)) 0 h));
-      read-refused = λ file before h. (simp (ne-eqb (number (readRefusal file)) 0 h), simp (ne-eqb (number (readRefusal file)) 0 h));
-      read-answered = λ file before h. (simp (eq-eqb (number (readRefusal file)) 0 h), simp (eq-eqb (number (readRefusal file)) 0 h));
+      call-refused = call-refused;
+      call-answered = call-answered;
+      call-exactly = λ sheet file out w. exactly (call-follows sheet file w out);
+      write-refused = write-refused;
+      write-answered = write-answered;
+      write-exactly = λ ns out l. exactly (write-follows ns out l);
+      read-refused = read-refused;
+      read-answered = read-answered;
+      read-exactly = λ file w. exactly (read-follows file w);
     }
 
--- the report of a file that reads as a job
-text-is : (sheet file : List ℕ) {j : Job} → jobIn file ≡ Read.Accepted j → text sheet file ≡ report (judgement j (entriesOf sheet))
-unfolding text reportIn
-text-is sheet file e = rw e
+-- the report that an answered call leaves
+reported : (sheet file out : List ℕ) → Bytes file → (ns : List ℕ) → Answers sheet file out ns → callBuffer sheet file out ≡ reportOf sheet ns ++ drop (callCode sheet file out) out
+reported sheet file out w ns a = let e = call-answered sheet file out w ns a in rw (e .0) (e .1)
+
+-- the numbers of a file that was written, read back
+job-back : (ns out before : List ℕ) → length ns ≡ 25 → writeCode ns out / 4294967296 ≡ 0 →
+    (let file = take (writeCode ns out) (writeBuffer ns out) in
+    (readCode file ≡ 25) × (readBuffer file before ≡ ns))
+job-back ns out before l e =
+    let a = write-halves ns out l .only e in
+    let f = write-answered ns out l a in
+    let r = stands-reads ns l (a .stands) in
+    rw (f .0, f .1, take-append-seam) (read-answered (encodeAll ns) before (bytes-all ns (r .holds .narrow)) ns r)
+
+-- the file of numbers that were read, written back
+written-back : (file ns out : List ℕ) → Reads file ns → length file ≤ length out → (writeCode ns out ≡ length file) × (writeBuffer ns out ≡ file ++ drop (length file) out)
+written-back file ns out r l =
+    let e = r .holds .is in
+    rw e (write-answered ns out (r .holds .long) (record { stands = r .stands; room = rw e at l }))
+
+file-back : (file before out : List ℕ) → Bytes file → readCode file ≡ 25 → length file ≤ length out
+    → (writeCode (readBuffer file before) out ≡ length file) × (writeBuffer (readBuffer file before) out ≡ file ++ drop (length file) out)
+file-back file before out w e l =
+    let a = read-halves file w .only (omega arith) in
+    rw (read-answered file before w (a .0) (a .1) .1) (written-back file (a .0) out (a .1) l)
 
 demand2 : Demand2
-unfolding report judgement readCode readBuffer codeOf writtenCode numbers
-demand2 =
-    record {
-      reported = λ sheet file j e. text-is sheet file e;
-      job-back = λ n out before k l e. rw (round-trip .written-reads (jobOf n) out k e) (refl, numbers-job n l);
-      file-back = λ file out j b e l. let w = round-trip .read-writes file j out b e l in (ap writtenCode (w .0), w .1);
-    }
+unfolding report judgement
+demand2 = record { reported = reported; job-back = job-back; file-back = file-back }
 
--- an answered call has an accepted job
-call-accepted : (sheet file out : List ℕ) {j : Job} → jobIn file ≡ Read.Accepted j → number (callRefusal sheet file out) ≡ 0 → Accepted (entriesOf sheet) j
-unfolding callRefusal inputRefusal sheetRefusal Accepted refusal Job.Stands
-call-accepted sheet file out {j} e h =
-    let n = first-nothing (sheetRefusal sheet) (refusalIn (jobIn file)) (first-nothing (inputRefusal sheet file) _ h .0) .0 in
-    let s = unless-pass (eqb (length sheet) 502) _ _ (lit< tt) n .1 in
-    ap number (sym (first-rest (examination (entriesOf sheet)) (Job.examination j) s)) ∙ accepted-stands file j e
+-- ---- Demand 3
 
--- what an answered call's report shows
-shown : (sheet file out : List ℕ) {j : Job} → jobIn file ≡ Read.Accepted j → number (callRefusal sheet file out) ≡ 0 → (i : ℕ) → i < checks → verdictShown (callBuffer sheet file out) i ≡ Judging.verdictAt (entriesOf sheet) j i
-unfolding judgement
-shown sheet file out {j} e h i l =
-    let s = entriesOf sheet in
-    rw (demand1 .answered sheet file out h .1, text-is sheet file e, accepted-judgement s j (call-accepted sheet file out e h))
-    (verdict-shown j s _ i l)
+module _ (sheet file out : List ℕ) (w : Bytes file) (ns : List ℕ) (a : Answers sheet file out ns) where
+  verdict-is : (i : ℕ) → i < checks → verdictShown (callBuffer sheet file out) i ≡ getD (verdicts (jobOf ns) (entriesOf sheet)) i 0
+  verdict-is i l = rw (call-answered sheet file out w ns a .1) (verdict-shown (jobOf ns) (entriesOf sheet) _ i l)
+
+  height-is : heightShown (callBuffer sheet file out) ≡ stability (jobOf ns) (entriesOf sheet)
+  height-is = rw (call-answered sheet file out w ns a .1) (height-shown (jobOf ns) (entriesOf sheet) _)
+
+-- judging accepts what the call judges
+accepted : (sheet file ns : List ℕ) → Judges sheet file ns → Accepted (entriesOf sheet) (jobOf ns)
+accepted sheet file ns a = stands-accepted (entriesOf sheet) (jobOf ns) (entries-stand sheet (a .sheet-stands)) (a .reads .stands)
+
+-- heights in the order of the judgement's
+no-higher : (j k : Job) (a b : Height) → rank (heights k b) ≤ rank (heights j a) → NoHigher b a
+unfolding heights
+no-higher j k a None l = tt
+no-higher j k None (At H) l = omega arith
+no-higher j k (At K) (At H) l = omega arith
+
+up-to : (j : Job) (a : Height) (H : ℕ) → Judging.UpTo H (heights j a) ↔ UpTo H a
+unfolding heights
+up-to j None H = (λ u. u, λ u. u)
+up-to j (At K) H = (λ u. u, λ u. u)
+
+module _ (s : List ℕ) (j : Job) (a : Accepted s j) where
+  verdict-judged : (i : ℕ) → Judging.verdictAt s j i ≡ getD (verdicts j s) i 0
+  unfolding judgement
+  verdict-judged i = ap (λ g. getD (g .verdicts) i 0) (accepted-judgement s j a)
+
+  heights-judged : Judging.heightsOf s j ≡ heights j (stability j s)
+  unfolding judgement
+  heights-judged = ap (λ g. g .heights) (accepted-judgement s j a)
+
+module _ (sheet file₁ file₂ out₁ out₂ : List ℕ) (w₁ : Bytes file₁) (w₂ : Bytes file₂) (n₁ n₂ : List ℕ)
+    (a : Answers sheet file₁ out₁ n₁) (b : Answers sheet file₂ out₂ n₂) (h : Harsher (jobOf n₁) (jobOf n₂)) where
+  first : Accepted (entriesOf sheet) (jobOf n₁)
+  first = accepted sheet file₁ n₁ (a .judges)
+
+  second : Accepted (entriesOf sheet) (jobOf n₂)
+  second = accepted sheet file₂ n₂ (b .judges)
+
+  no-pass-gained : (i : ℕ) → i < checks → verdictShown (callBuffer sheet file₁ out₁) i ≡ 2 → verdictShown (callBuffer sheet file₂ out₂) i ≡ 2
+  no-pass-gained i l =
+      rw (verdict-is sheet file₁ out₁ w₁ n₁ a i l, verdict-is sheet file₂ out₂ w₂ n₂ b i l, ← verdict-judged _ _ first i, ← verdict-judged _ _ second i)
+      (demand3 .no-pass-gained (entriesOf sheet) (jobOf n₁) (jobOf n₂) first second h i)
+
+  no-height-gained : NoHigher (heightShown (callBuffer sheet file₂ out₂)) (heightShown (callBuffer sheet file₁ out₁))
+  no-height-gained =
+      rw (height-is sheet file₁ out₁ w₁ n₁ a, height-is sheet file₂ out₂ w₂ n₂ b)
+      (no-higher (jobOf n₁) (jobOf n₂) _ _ (rw (heights-judged _ _ first, heights-judged _ _ second) at (demand3 .no-height-gained (entriesOf sheet) (jobOf n₁) (jobOf n₂) first second h)))
+
+height-exact : (sheet file out : List ℕ) → Bytes file → (ns : List ℕ) → Answers sheet file out ns
+    → (H : ℕ) → H ≤ 6000 → T (poles (jobOf ns) (entriesOf sheet) H) ↔ UpTo H (heightShown (callBuffer sheet file out))
+height-exact sheet file out w ns a H l =
+    let c = accepted sheet file ns (a .judges) in
+    let e = rw (heights-judged _ _ c) at (demand3 .height-exact (entriesOf sheet) (jobOf ns) c H l) in
+    let u = up-to (jobOf ns) (stability (jobOf ns) (entriesOf sheet)) H in
+    rw (height-is sheet file out w ns a) (λ t. u .0 (e .0 t), λ t. e .1 (u .1 t))
+
+-- the same numbers with another height, where field 7 allows it, are judged too
+module _ (sheet file ns : List ℕ) (H : ℕ) (a : Judges sheet file ns) (i : Inside (jobOf (set ns 6 H)) 7) where
+  same : numbers (jobOf ns) ≡ ns
+  same = numbers-job ns (a .reads .holds .long)
+
+  judges-at : Judges sheet (encodeAll (set ns 6 H)) (set ns 6 H)
+  judges-at =
+      let s : Stands (jobOf (set ns 6 H)) = rw same at (stands-at (jobOf ns) H (a .reads .stands) (rw same i)) in
+      record { sheet-stands = a .sheet-stands; reads = stands-reads (set ns 6 H) (length-set ns 6 H ∙ a .reads .holds .long) s }
+
+  at-height : withHeight H (jobOf ns) ≡ jobOf (set ns 6 H)
+  unfolding withHeight
+  at-height = ap (λ (l : List ℕ). jobOf (set l 6 H)) same
+
+  poles-shown : (out : List ℕ) → reportMost ≤ length out →
+      (let shown = callBuffer sheet (encodeAll (set ns 6 H)) out in
+      T (poles (jobOf ns) (entriesOf sheet) H) ↔ ((verdictShown shown 6 ≡ 2 → ⊥) × (verdictShown shown 7 ≡ 2 → ⊥)))
+  poles-shown out l =
+      let b = header .report-room sheet _ out _ judges-at l in
+      let w = bytes-all (set ns 6 H) (judges-at .reads .holds .narrow) in
+      rw (verdict-is sheet _ out w _ b 6 (lit< tt), verdict-is sheet _ out w _ b 7 (lit< tt))
+      (rw at-height at (poles-are-verdicts .pass (jobOf ns) (entriesOf sheet) H))
 
 pub demands : Demands
 demands =
@@ -80,10 +173,9 @@ demands =
       two = demand2;
       three =
           record {
-            judging = demand3;
-            reports = λ sheet file₁ file₂ out₁ out₂ j k e₁ e₂ a b h i l e.
-                shown sheet file₂ out₂ e₂ b i l
-                ∙ demand3 .no-pass-gained (entriesOf sheet) j k (call-accepted sheet file₁ out₁ e₁ a) (call-accepted sheet file₂ out₂ e₂ b) h i
-                (sym (shown sheet file₁ out₁ e₁ a i l) ∙ e);
+            no-pass-gained = no-pass-gained;
+            no-height-gained = no-height-gained;
+            height-exact = height-exact;
+            poles-shown = λ sheet file w ns a H i. poles-shown sheet file ns H a i;
           };
     }

@@ -1,4 +1,6 @@
 pub mod Code
 pub mod Call
+pub mod Table
+pub mod Header
 pub mod Shown
 pub mod Demands
