@@ -1,2 +1,3 @@
 pub mod Returned
 pub mod Beginnings
+pub mod Prints

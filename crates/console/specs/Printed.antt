@@ -9,7 +9,9 @@ use lib.ListN.{length, take}
 use Rattle.basis.specs.Refusal.{number, place, sheetLength}
 use Rattle.basis.specs.declared.Refusal.{Refusal}
 use Rattle.jobfile.specs.Beginning.{beginningLength}
+use Rattle.groups.specs.Decode.{Bytes}
 use Rattle.rembilung.specs.Call.{text, inputRefusal}
+use Rattle.rembilung.specs.Table.{InputRow, Judges, reportOf}
 use Rattle.report.specs.Refused.{refusedLine}
 
 -- the line of a refusal, a place above 4,294,967,295 being given as that
@@ -28,3 +30,8 @@ printedFrom n sheet file = cond (eqb n 502) (printed sheet file) (line (sheetLen
 pub record Beginnings : Type 0 where
   pub suffice : (n : ℕ) (sheet file : List ℕ) → min n 4294967295 ≡ min (length sheet) 4294967295
       → printedFrom n (take 502 sheet) (take beginningLength file) ≡ printed sheet file
+
+-- what is printed, from the facts of the table: the line of the row that applies, whatever the buffer, or the report
+pub record Prints : Type 0 where
+  pub refused : (sheet file : List ℕ) → Bytes file → (n p : ℕ) → InputRow sheet file n p → printed sheet file ≡ refusedLine n (min p 4294967295)
+  pub reported : (sheet file : List ℕ) → Bytes file → (ns : List ℕ) → Judges sheet file ns → printed sheet file ≡ reportOf sheet ns

@@ -22,7 +22,9 @@ pub record Refuses (number place returned : ℕ) (before after : List ℕ) : Typ
 -- ---- Reading a job file: 6, 7, 3, 4, 5
 
 pub data ReadRow (file : List ℕ) : ℕ → ℕ → Type 0 where
+  -- 6, offset of the number's first byte: file ends inside or before it, not shortest, or too great; 7, offset of first extra byte (groups/specs/Rows.antt)
   bytes : (n p : ℕ) → Groups.Row 25 file n p → ReadRow file n p
+  -- 3, lowest field: outside its range; 4, 10 or else 12: they contradict each other; 5, 20 or else 21: an unfit wall (job/specs/Rows.antt)
   job : (n p : ℕ) (ns : List ℕ) → Groups.Holds 25 file ns → Job.Row (jobOf ns) n p → ReadRow file n p
 
 -- none applies: the file is that of 25 numbers that stand
@@ -33,6 +35,7 @@ pub record Reads (file ns : List ℕ) : Type 0 where
 -- ---- Writing a job file: 3, 4, 5, 8
 
 pub data WriteRow (ns out : List ℕ) : ℕ → ℕ → Type 0 where
+  -- 3, 4, 5
   job : (n p : ℕ) → Job.Row (jobOf ns) n p → WriteRow ns out n p
   -- 8, length needed: buffer too short
   short : Job.Stands (jobOf ns) → length out < length (encodeAll ns) → WriteRow ns out 8 (length (encodeAll ns))
@@ -44,7 +47,7 @@ pub record Writes (ns out : List ℕ) : Type 0 where
 
 -- ---- The whole call: 1, 2, 6, 7, 3, 4, 5, 8
 
--- a sheet of 502 bytes that stands
+-- a sheet that stands: 502 bytes, no entry of which is faulty (sheet/specs/Rows.antt)
 pub record SheetStands (sheet : List ℕ) : Type 0 where
   pub bytes : length sheet ≡ 502
   pub entries : (k : ℕ) → k ≤ 250 → Faulty (entriesOf sheet) k → ⊥
@@ -59,9 +62,11 @@ pub data SheetRow (sheet : List ℕ) : ℕ → ℕ → Type 0 where
   -- 2, first such k: entry k is 0, above 1,000, above entry k−1, or k = 250 and below 117
   entry : (k : ℕ) → length sheet ≡ 502 → k ≤ 250 → First (Faulty (entriesOf sheet)) k → SheetRow sheet 2 k
 
--- 1, 2, 6, 7, 3, 4, 5: whatever the buffer
+-- what is refused whatever the buffer
 pub data InputRow (sheet file : List ℕ) : ℕ → ℕ → Type 0 where
+  -- 1, 2
   of-sheet : (n p : ℕ) → SheetRow sheet n p → InputRow sheet file n p
+  -- 6, 7, 3, 4, 5
   of-file : (n p : ℕ) → SheetStands sheet → ReadRow file n p → InputRow sheet file n p
 
 -- none applies but for the buffer: the sheet stands, and the file is that of 25 numbers that stand
@@ -70,6 +75,7 @@ pub record Judges (sheet file ns : List ℕ) : Type 0 where
   pub reads : Reads file ns
 
 pub data CallRow (sheet file out : List ℕ) : ℕ → ℕ → Type 0 where
+  -- 1, 2, 6, 7, 3, 4, 5
   of-input : (n p : ℕ) → InputRow sheet file n p → CallRow sheet file out n p
   -- 8, length needed: buffer too short
   short : (ns : List ℕ) → Judges sheet file ns → length out < length (reportOf sheet ns) → CallRow sheet file out 8 (length (reportOf sheet ns))

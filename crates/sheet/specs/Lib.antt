@@ -4,3 +4,4 @@ pub mod Pass
 pub mod StabilityFactor
 pub mod Bytes
 pub mod SheetT
+pub mod Marked
