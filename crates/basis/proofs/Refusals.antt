@@ -31,6 +31,15 @@ unfolding unless
 unless-pass true refusal rest l e = (tt, e)
 unless-pass false refusal rest l e = absurd (omega arith)
 
+-- a test that passes, and one that fails
+pub unless-passes : (b : Bool) (refusal rest : Refusal) → b ≡ true → unless b refusal rest ≡ rest
+unfolding unless
+unless-passes b refusal rest e = rw e
+
+pub unless-fails : (b : Bool) (refusal rest : Refusal) → b ≡ false → unless b refusal rest ≡ refusal
+unfolding unless
+unless-fails b refusal rest e = rw e
+
 -- one test of a chain: what stands in it may be put by its definition
 pub unless-link : {r x x′ rest rest′ : Refusal} {b b′ : Bool} → r ≡ unless b x rest → b ≡ b′ → x ≡ x′ → rest ≡ rest′ → r ≡ unless b′ x′ rest′
 unless-link e f g h = cc

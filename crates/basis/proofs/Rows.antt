@@ -4,7 +4,7 @@ use mathlib.Core.Path.{_≡_, sym, ap, _∙_}
 use mathlib.Core.Logic.{⊎-elim}
 use Prim.Native.Nat.{ℕ}
 use native.Mathlib.Omega.{arith}
-use Rattle.basis.specs.Refusal.{number, place, nothing, first}
+use Rattle.basis.specs.Refusal.{number, place, first}
 use Rattle.basis.specs.declared.Refusal.{Refusal}
 use Rattle.basis.specs.Rows.{Follows, Exactly}
 use Rattle.basis.proofs.Refusals.{first-here}

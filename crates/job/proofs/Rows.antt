@@ -1,23 +1,24 @@
 -- What is refused of a job is what the table says: row by row, and where none applies.
 -- Assumes nothing.
 use mathlib.Core.Path.{_≡_, _∙_, refl, ap}
-use mathlib.Core.Bool.{true}
+use mathlib.Core.Bool.{Bool, _||_, true}
 use mathlib.Core.List.{_∷_}
 use mathlib.Core.Logic.{_⊎_, inl, inr, ⊎-elim}
-use Prim.Native.Nat.{ℕ, zero, suc, _<_}
+use Prim.Native.Nat.{ℕ, zero, suc, _≤_, _<_}
 use native.Mathlib.Nat.{zero-add}
 use native.Mathlib.Omega.{arith}
 use lib.ListN.{set}
 use lib.Dec.{eqb, leb, ltb, lit<}
 use borrow.Author.Tests.{ltb-true, ltb-false, leb-true, leb-false, eqb-true, eqb-false, lt-ltb, le-ltb, le-leb, lt-leb, eq-eqb, ne-eqb}
-use Rattle.basis.specs.Refusal.{number, nothing, unless}
+use Rattle.basis.specs.Refusal.{number, nothing, fieldRange, contradiction, unless}
 use Rattle.basis.specs.Rows.{First, Some, Follows}
 use Rattle.basis.proofs.Tests.{cases, within-le}
 use Rattle.job.specs.declared.Job.{Job}
+use Rattle.basis.proofs.Refusals.{unless-passes, unless-fails}
 use Rattle.basis.proofs.Rows.{unrefused}
 use Rattle.job.specs.Ranges.{heightStands, geometry, loads, wind, ground, ranges, field, lowest, outside}
 use Rattle.job.specs.Job.{jobOf, numbers}
-use Rattle.job.specs.Examine.{examination}
+use Rattle.job.specs.Examine.{wallRefusal, agreementRefusal, examination}
 use Rattle.job.specs.Rows.{Inside, Outside, Agrees, Row, Stands, Told}
 use Rattle.job.proofs.Lowest.{lowest-all, lowest-first, lowest-every, set-passes}
 
@@ -40,21 +41,43 @@ module _ (j : Job) where
   unfolding Inside ranges geometry
   single i h = let w = within-le 1 2 (j .family) i in omega (arith, w .0, w .1)
 
-  row-is : (n p : ℕ) → Row j n p → (0 < n) × (examination j ≡ record { number = n; place = p })
-  unfolding examination unless
-  row-is n p (Row.outside q f) = let e = outside-is q f in (lit< tt, rw (ne-eqb (outside j) 0 (λ z. omega (arith, outside-pos q f)), e))
-  row-is n p (Row.layers i l) = (lit< tt, rw (none-outside i, lt-leb (j .working) (j .boarded) l))
-  row-is n p (Row.live i l m) = (lit< tt, rw (none-outside i, le-leb (j .working) (j .boarded) l, lt-leb _ _ m))
-  row-is n p (Row.thin a f l) = (lit< tt, rw (none-outside (a .inside), le-leb _ _ (a .layers), le-leb _ _ (a .live), ne-eqb (j .family) 1 (λ z. omega arith), le-ltb 180 (j .thickness) l))
-  row-is n p (Row.weak a f l m) = (lit< tt, rw (none-outside (a .inside), le-leb _ _ (a .layers), le-leb _ _ (a .live), ne-eqb (j .family) 1 (λ z. omega arith), lt-ltb 180 (j .thickness) l, ne-eqb (j .make) 1 m))
+  -- what is left to refuse of a job whose fields are in their ranges, and of one whose fields agree
+  in-range : ((p : ℕ) → Inside j p) → examination j ≡ agreementRefusal j
+  unfolding examination
+  in-range i = unless-passes (eqb (outside j) 0) (fieldRange (outside j)) (agreementRefusal j) (eq-eqb (outside j) 0 (none-outside i))
+
+  layers-agree : j .working ≤ j .boarded → agreementRefusal j ≡ unless (leb (j .q) (j .total)) (contradiction 12) (wallRefusal j)
+  layers-agree l = unless-passes (leb (j .working) (j .boarded)) _ _ (le-leb (j .working) (j .boarded) l)
+
+  agree : Agrees j → examination j ≡ wallRefusal j
+  agree a = in-range (a .inside) ∙ layers-agree (a .layers) ∙ unless-passes (leb (j .q) (j .total)) _ _ (le-leb (j .q) (j .total) (a .live))
 
   none-is : Stands j → examination j ≡ nothing
-  unfolding examination unless
   none-is s =
-      let a = s .agrees in
-      rw (none-outside (a .inside), le-leb _ _ (a .layers), le-leb _ _ (a .live))
-      (cases (eqb (j .family) 1) (λ t. rw t refl)
-      (λ t. let w = s .wall (single (a .inside 1) (eqb-false (j .family) 1 t)) in rw (t, lt-ltb 180 (j .thickness) (w .0), eq-eqb (j .make) 1 (w .1)) refl))
+      agree (s .agrees)
+      ∙ unless-passes (eqb (j .family) 1 || ltb 180 (j .thickness)) _ _ (either (λ w. lt-ltb 180 (j .thickness) (w .0)))
+      ∙ unless-passes (eqb (j .family) 1 || eqb (j .make) 1) _ _ (either (λ w. eq-eqb (j .make) 1 (w .1)))
+    where
+      -- a double row asks nothing of its wall
+      either : {b : Bool} → ((180 < j .thickness) × (j .make ≡ 1) → b ≡ true) → (eqb (j .family) 1 || b) ≡ true
+      either f = cases (eqb (j .family) 1) (λ t. rw t refl) (λ t. rw t (f (s .wall (single (s .agrees .inside 1) (eqb-false (j .family) 1 t)))))
+
+  row-is : (n p : ℕ) → Row j n p → (0 < n) × (examination j ≡ record { number = n; place = p })
+  unfolding examination
+  row-is n p (Row.outside q f) =
+      let e = outside-is q f in
+      (lit< tt, unless-fails (eqb (outside j) 0) (fieldRange (outside j)) (agreementRefusal j) (ne-eqb (outside j) 0 (λ z. omega (arith, outside-pos q f))) ∙ ap fieldRange e)
+  row-is n p (Row.layers i l) = (lit< tt, in-range i ∙ unless-fails (leb (j .working) (j .boarded)) _ _ (lt-leb (j .working) (j .boarded) l))
+  row-is n p (Row.live i l m) = (lit< tt, in-range i ∙ layers-agree l ∙ unless-fails (leb (j .q) (j .total)) _ _ (lt-leb (j .q) (j .total) m))
+  row-is n p (Row.thin a f l) =
+      (lit< tt, agree a ∙ unless-fails (eqb (j .family) 1 || ltb 180 (j .thickness)) _ _ (rw (ne-eqb (j .family) 1 (λ z. omega arith)) (le-ltb 180 (j .thickness) l)))
+  row-is n p (Row.weak a f l m) =
+      let s = ne-eqb (j .family) 1 (λ z. omega arith) in (
+        lit< tt,
+        agree a
+            ∙ unless-passes (eqb (j .family) 1 || ltb 180 (j .thickness)) _ _ (rw s (lt-ltb 180 (j .thickness) l))
+            ∙ unless-fails (eqb (j .family) 1 || eqb (j .make) 1) _ _ (rw s (ne-eqb (j .make) 1 m)),
+      )
 
   -- by the facts of the table, in their order
   every-is : Stands j ⊎ Some (Row j)

@@ -7,11 +7,20 @@ use Rattle.basis.specs.declared.Refusal.{Refusal}
 use Rattle.job.specs.declared.Job.{Job}
 use Rattle.job.specs.Ranges.{outside}
 
-unfoldable pub examination : Job → Refusal
-examination j =
-    unless (eqb (outside j) 0) (fieldRange (outside j))
-    (unless (leb (j .working) (j .boarded)) (contradiction 10)
-    (unless (leb (j .q) (j .total)) (contradiction 12)
-    (unless (eqb (j .family) 1 || ltb 180 (j .thickness)) (unfitWall 20)
+-- 5, 20 or else 21
+abbrev pub wallRefusal : Job → Refusal
+wallRefusal j =
+    unless (eqb (j .family) 1 || ltb 180 (j .thickness)) (unfitWall 20)
     (unless (eqb (j .family) 1 || eqb (j .make) 1) (unfitWall 21)
-    nothing))))
+    nothing)
+
+-- 4, 10 or else 12; then 5
+abbrev pub agreementRefusal : Job → Refusal
+agreementRefusal j =
+    unless (leb (j .working) (j .boarded)) (contradiction 10)
+    (unless (leb (j .q) (j .total)) (contradiction 12)
+    (wallRefusal j))
+
+-- 3, then 4 and 5
+unfoldable pub examination : Job → Refusal
+examination j = unless (eqb (outside j) 0) (fieldRange (outside j)) (agreementRefusal j)

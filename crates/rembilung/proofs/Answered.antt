@@ -25,7 +25,7 @@ module _ {r : Refusal} {Row : ℕ → ℕ → Type 0} {None : Type 0} (f : Follo
   unfolding writtenCode codeOf writtenOr leftOr
   writes-refused n p a =
       let e = f .row n p a in
-      rw (e .1) (record { code = simp (ne-eqb n 0 (λ z. omega (arith, e .0))); kept = simp (ne-eqb n 0 (λ z. omega (arith, e .0))) })
+      rw (e .1, ne-eqb n 0 (λ z. omega (arith, e .0))) (record { code = refl; kept = refl })
 
   pub writes-done : (text : List ℕ) → written ≡ text → None → (writtenCode (writtenOr r (length written)) ≡ length text) × (leftOr r written out ≡ text ++ drop (length text) out)
   unfolding writtenCode codeOf writtenOr leftOr

@@ -18,17 +18,17 @@ use Rattle.job.specs.Job.{jobOf}
 use Rattle.job.specs.Rows as Job
 use Rattle.job.specs.Examine.{examination}
 use Rattle.job.proofs.Numbers.{numbers-job}
-use Rattle.job.proofs.Rows as Jobs
+use Rattle.job.proofs.Rows.{told as job-told}
 use Rattle.sheet.specs.Bytes.{entries}
 use Rattle.sheet.specs.Sheet as Sheet
-use Rattle.sheet.specs.Rows as SheetFacts
-use Rattle.sheet.proofs.Rows as Sheets
+use Rattle.sheet.specs.Rows as Entries
+use Rattle.sheet.proofs.Rows.{told as sheet-told}
 use Rattle.groups.specs.Encode.{encodeAll}
 use Rattle.groups.specs.Decode.{Bytes}
 use Rattle.groups.specs.Numbers.{damage, values}
 use Rattle.groups.specs.Rows as Groups
 use Rattle.groups.proofs.Files.{values-back}
-use Rattle.groups.proofs.Rows as Group
+use Rattle.groups.proofs.Rows.{told as numbers-told}
 use Rattle.jobfile.specs.Read.{readRefusal, jobIn}
 use Rattle.jobfile.specs.Write.{fileOf, writeRefusal}
 use Rattle.jobfile.specs.declared.ReadJob.the-variants.{Accepted, Refused}
@@ -45,7 +45,7 @@ held file ns h = rw (h .is, ← h .long) (rw append-nil at (values-back ns [] (h
 
 module _ (file : List ℕ) (w : Bytes file) where
   bytes-follow : Follows (damage 25 0 file) (Groups.Row 25 file) ((ns : List ℕ) × Groups.Holds 25 file ns)
-  bytes-follow = Group.told .told 25 file w
+  bytes-follow = numbers-told .told 25 file w
 
   -- what is refused of a file that holds 25 numbers is refused of their job
   read-job : (ns : List ℕ) → Groups.Holds 25 file ns → readRefusal file ≡ examination (jobOf ns)
@@ -57,18 +57,18 @@ module _ (file : List ℕ) (w : Bytes file) where
   read-follows =
       record {
         row = row;
-        none = λ a. read-job (a .0) (a .1 .holds) ∙ Jobs.told .told (jobOf (a .0)) .none (a .1 .stands);
+        none = λ a. read-job (a .0) (a .1 .holds) ∙ job-told .told (jobOf (a .0)) .none (a .1 .stands);
         every = ⊎-elim (λ h. jobs (h .0) (h .1)) (λ r. inr (r .0, (r .1 .0, ReadRow.bytes _ _ (r .1 .1)))) (bytes-follow .every);
       }
     where
       row : (n p : ℕ) → ReadRow file n p → (0 < n) × (readRefusal file ≡ record { number = n; place = p })
       row n p (ReadRow.bytes m q r) = (bytes-follow .row n p r .0, then-row bytes-follow _ n p r)
-      row n p (ReadRow.job m q ns h r) = let e = Jobs.told .told (jobOf ns) .row n p r in (e .0, read-job ns h ∙ e .1)
+      row n p (ReadRow.job m q ns h r) = let e = job-told .told (jobOf ns) .row n p r in (e .0, read-job ns h ∙ e .1)
 
       jobs : (ns : List ℕ) → Groups.Holds 25 file ns → ((ns : List ℕ) × Reads file ns) ⊎ Some (ReadRow file)
       jobs ns h =
           ⊎-elim (λ s. inl (ns, record { holds = h; stands = s })) (λ r. inr (r .0, (r .1 .0, ReadRow.job _ _ ns h (r .1 .1))))
-          (Jobs.told .told (jobOf ns) .every)
+          (job-told .told (jobOf ns) .every)
 
 -- the job of a file that reads
 pub reads-job : (file ns : List ℕ) → Bytes file → Reads file ns → jobIn file ≡ Accepted (jobOf ns)
@@ -92,7 +92,7 @@ file-is ns l = rw (numbers-job ns l)
 
 module _ (ns out : List ℕ) (l : length ns ≡ 25) where
   job-follows : Follows (examination (jobOf ns)) (Job.Row (jobOf ns)) (Job.Stands (jobOf ns))
-  job-follows = Jobs.told .told (jobOf ns)
+  job-follows = job-told .told (jobOf ns)
 
   -- a job that stands is refused only for want of room
   write-room : Job.Stands (jobOf ns) → writeRefusal (jobOf ns) out ≡ roomRefusal (encodeAll ns) out
@@ -125,10 +125,10 @@ entries-long bytes zero = refl
 entries-long bytes (suc n) = rw (length-append, entries-long bytes n) (omega arith)
 
 module _ (sheet : List ℕ) where
-  entries-follow : Follows (Sheet.examination (entriesOf sheet)) (SheetFacts.Row (entriesOf sheet)) (SheetFacts.Stands (entriesOf sheet))
-  entries-follow = Sheets.told .told (entriesOf sheet)
+  entries-follow : Follows (Sheet.examination (entriesOf sheet)) (Entries.Row (entriesOf sheet)) (Entries.Stands (entriesOf sheet))
+  entries-follow = sheet-told .told (entriesOf sheet)
 
-  pub entries-stand : SheetStands sheet → SheetFacts.Stands (entriesOf sheet)
+  pub entries-stand : SheetStands sheet → Entries.Stands (entriesOf sheet)
   entries-stand s = record { long = entries-long sheet 251; entries = s .entries }
 
   -- what is refused of 502 bytes is refused of their entries
@@ -148,11 +148,11 @@ module _ (sheet : List ℕ) where
     where
       row : (n p : ℕ) → SheetRow sheet n p → (0 < n) × (sheetRefusal sheet ≡ record { number = n; place = p })
       row n p (SheetRow.long h) = (lit< tt, rw (ne-eqb (length sheet) 502 h))
-      row n p (SheetRow.entry k l u f) = (lit< tt, sheet-entries l ∙ entries-follow .row 2 k (SheetFacts.Row.entry k (entries-long sheet 251) u f) .1)
+      row n p (SheetRow.entry k l u f) = (lit< tt, sheet-entries l ∙ entries-follow .row 2 k (Entries.Row.entry k (entries-long sheet 251) u f) .1)
 
-      row-2 : length sheet ≡ 502 → (n p : ℕ) → SheetFacts.Row (entriesOf sheet) n p → Some (SheetRow sheet)
-      row-2 l n p (SheetFacts.Row.long h) = absurd (h (entries-long sheet 251))
-      row-2 l n p (SheetFacts.Row.entry k m u f) = (2, (k, SheetRow.entry k l u f))
+      row-2 : length sheet ≡ 502 → (n p : ℕ) → Entries.Row (entriesOf sheet) n p → Some (SheetRow sheet)
+      row-2 l n p (Entries.Row.long h) = absurd (h (entries-long sheet 251))
+      row-2 l n p (Entries.Row.entry k m u f) = (2, (k, SheetRow.entry k l u f))
 
 module _ (sheet file : List ℕ) (w : Bytes file) where
   -- what the answer of reading refuses
@@ -173,13 +173,13 @@ module _ (sheet file : List ℕ) (w : Bytes file) where
   input-follows =
       record {
         row = row;
-        none = λ a. then-rest (sheet-follows sheet) _ (a .1 .sheet-stands) ∙ file-follows .none (a .0, a .1 .reads);
+        none = λ a. then-rest (sheet-follows sheet) (refusalIn (jobIn file)) (a .1 .sheet-stands) ∙ file-follows .none (a .0, a .1 .reads);
         every = ⊎-elim files (λ r. inr (r .0, (r .1 .0, InputRow.of-sheet _ _ (r .1 .1)))) (sheet-follows sheet .every);
       }
     where
       row : (n p : ℕ) → InputRow sheet file n p → (0 < n) × (inputRefusal sheet file ≡ record { number = n; place = p })
-      row n p (InputRow.of-sheet m q r) = (sheet-follows sheet .row n p r .0, then-row (sheet-follows sheet) _ n p r)
-      row n p (InputRow.of-file m q s r) = let e = file-follows .row n p r in (e .0, then-rest (sheet-follows sheet) _ s ∙ e .1)
+      row n p (InputRow.of-sheet m q r) = (sheet-follows sheet .row n p r .0, then-row (sheet-follows sheet) (refusalIn (jobIn file)) n p r)
+      row n p (InputRow.of-file m q s r) = let e = file-follows .row n p r in (e .0, then-rest (sheet-follows sheet) (refusalIn (jobIn file)) s ∙ e .1)
 
       files : SheetStands sheet → ((ns : List ℕ) × Judges sheet file ns) ⊎ Some (InputRow sheet file)
       files s =
@@ -189,7 +189,7 @@ module _ (sheet file : List ℕ) (w : Bytes file) where
   -- the report of a call that judges
   pub text-is : (ns : List ℕ) → Reads file ns → text sheet file ≡ reportOf sheet ns
   unfolding text reportIn
-  text-is ns a = rw (reads-job file ns w a)
+  text-is ns a = ap (reportIn (entriesOf sheet)) (reads-job file ns w a)
 
   module _ (out : List ℕ) where
     -- a sheet and a file that stand are refused only for want of room
