@@ -99,8 +99,8 @@ great-unread (g ∷ gs) rest b c l h =
 
 pub damaged-unread : (bs : List ℕ) → Damaged bs → decode bs ≡ Malformed
 damaged-unread bs (Damaged.ends c) = ends-unread bs c
-damaged-unread bs (Damaged.long gs rest e c h) = ap decode e ∙ long-unread gs rest c h
-damaged-unread bs (Damaged.great gs rest b e c l h) = ap decode e ∙ great-unread gs rest b c l h
+damaged-unread bs (Damaged.not-shortest gs rest e c h) = ap decode e ∙ long-unread gs rest c h
+damaged-unread bs (Damaged.too-great gs rest b e c l h) = ap decode e ∙ great-unread gs rest b c l h
 
 -- the groups up to the first byte without a top bit, and that byte
 record Ended (bs : List ℕ) : Type 0 where
@@ -141,5 +141,5 @@ unread-damaged bs e = ⊎-elim Damaged.ends (λ d. go (d .groups) (d .last) (d .
     go : (gs : List ℕ) (b : ℕ) (rest : List ℕ) → bs ≡ gs ++ (b ∷ rest) → Continued gs → b < 128 → Damaged bs
     go [] b rest f c l = differ (sym e ∙ ap decode f ∙ decode-one b rest l)
     go (g ∷ gs) b rest f c l =
-        ⊎-elim (λ z. Damaged.long (g ∷ gs) rest (f ∙ ap (λ (x : ℕ). g ∷ gs ++ (x ∷ rest)) z) c (omega arith)) (λ h. Damaged.great (g ∷ gs) rest b f c l h)
+        ⊎-elim (λ z. Damaged.not-shortest (g ∷ gs) rest (f ∙ ap (λ (x : ℕ). g ∷ gs ++ (x ∷ rest)) z) c (omega arith)) (λ h. Damaged.too-great (g ∷ gs) rest b f c l h)
         (several g gs rest b c l (sym (ap decode f) ∙ e))

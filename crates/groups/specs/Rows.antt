@@ -22,8 +22,8 @@ grouped (b ∷ bs) = b % 128 + 128 * grouped bs
 -- no number stands at the front of some bytes: they end inside or before it, it is not in its shortest form, or it is too great
 pub data Damaged (bytes : List ℕ) : Type 0 where
   ends : Continued bytes → Damaged bytes
-  long : (groups rest : List ℕ) → bytes ≡ groups ++ (0 ∷ rest) → Continued groups → 0 < length groups → Damaged bytes
-  great : (groups rest : List ℕ) (last : ℕ) → bytes ≡ groups ++ (last ∷ rest) → Continued groups → last < 128 → 4294967295 < grouped (groups ++ (last ∷ [])) → Damaged bytes
+  not-shortest : (groups rest : List ℕ) → bytes ≡ groups ++ (0 ∷ rest) → Continued groups → 0 < length groups → Damaged bytes
+  too-great : (groups rest : List ℕ) (last : ℕ) → bytes ≡ groups ++ (last ∷ rest) → Continued groups → last < 128 → 4294967295 < grouped (groups ++ (last ∷ [])) → Damaged bytes
 
 -- each number is at most 4,294,967,295
 abbrev pub Narrow : List ℕ → Type 0

@@ -8,8 +8,7 @@ use Rattle.basis.specs.Range.{within}
 use Rattle.basis.proofs.Tests.{either-elim, within-le}
 use Rattle.job.specs.declared.Job.{Job}
 use Rattle.job.specs.Ranges.{lbStands, heightStands, shieldStands, geometry, loads, wind, ground, ranges}
-use Rattle.job.specs.Rows.{Stands}
-use Rattle.job.specs.Rows.{Inside}
+use Rattle.job.specs.Rows.{Inside, Stands}
 use Rattle.job.specs.Bounds.{Bounds}
 
 cond-elim : {A : Type 0} (b c d : Bool) → (T c → A) → (T d → A) → T (cond b c d) → A

@@ -13,9 +13,9 @@ use borrow.Author.Tests.{ltb-true, ltb-false, leb-true, leb-false, eqb-true, eqb
 use Rattle.basis.specs.Refusal.{number, nothing, fieldRange, contradiction, unless}
 use Rattle.basis.specs.Rows.{First, Some, Follows}
 use Rattle.basis.proofs.Tests.{cases, within-le}
-use Rattle.job.specs.declared.Job.{Job}
 use Rattle.basis.proofs.Refusals.{unless-passes, unless-fails}
 use Rattle.basis.proofs.Rows.{unrefused}
+use Rattle.job.specs.declared.Job.{Job}
 use Rattle.job.specs.Ranges.{heightStands, geometry, loads, wind, ground, ranges, field, lowest, outside}
 use Rattle.job.specs.Job.{jobOf, numbers}
 use Rattle.job.specs.Examine.{wallRefusal, agreementRefusal, examination}

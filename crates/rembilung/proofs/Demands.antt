@@ -176,6 +176,6 @@ demands =
             no-pass-gained = no-pass-gained;
             no-height-gained = no-height-gained;
             height-exact = height-exact;
-            poles-shown = λ sheet file w ns a H i. poles-shown sheet file ns H a i;
+            poles-shown = λ sheet file ns a H i. poles-shown sheet file ns H a i;
           };
     }

@@ -67,7 +67,7 @@ bytes-below-8 file n p (Groups.Row.damaged ns rest s l d) = lit< tt
 bytes-below-8 file n p (Groups.Row.trailing ns rest s l d) = lit< tt
 
 sheet-below-8 : (sheet : List ℕ) (n p : ℕ) → SheetRow sheet n p → n < 8
-sheet-below-8 sheet n p (SheetRow.long h) = lit< tt
+sheet-below-8 sheet n p (SheetRow.other-length h) = lit< tt
 sheet-below-8 sheet n p (SheetRow.entry k l u f) = lit< tt
 
 read-below-8 : (file : List ℕ) (n p : ℕ) → ReadRow file n p → n < 8

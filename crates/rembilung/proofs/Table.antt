@@ -143,15 +143,15 @@ module _ (sheet : List ℕ) where
         row = row;
         none = λ s. sheet-entries (s .bytes) ∙ entries-follow .none (entries-stand s);
         every = cases (eqb (length sheet) 502) (λ t. let l = eqb-true (length sheet) 502 t in ⊎-elim (λ s. inl (record { bytes = l; entries = s .entries })) (λ r. inr (row-2 l (r .0) (r .1 .0) (r .1 .1))) (entries-follow .every))
-            (λ t. inr (1, (length sheet, SheetRow.long (eqb-false (length sheet) 502 t))));
+            (λ t. inr (1, (length sheet, SheetRow.other-length (eqb-false (length sheet) 502 t))));
       }
     where
       row : (n p : ℕ) → SheetRow sheet n p → (0 < n) × (sheetRefusal sheet ≡ record { number = n; place = p })
-      row n p (SheetRow.long h) = (lit< tt, rw (ne-eqb (length sheet) 502 h))
+      row n p (SheetRow.other-length h) = (lit< tt, rw (ne-eqb (length sheet) 502 h))
       row n p (SheetRow.entry k l u f) = (lit< tt, sheet-entries l ∙ entries-follow .row 2 k (Entries.Row.entry k (entries-long sheet 251) u f) .1)
 
       row-2 : length sheet ≡ 502 → (n p : ℕ) → Entries.Row (entriesOf sheet) n p → Some (SheetRow sheet)
-      row-2 l n p (Entries.Row.long h) = absurd (h (entries-long sheet 251))
+      row-2 l n p (Entries.Row.other-length h) = absurd (h (entries-long sheet 251))
       row-2 l n p (Entries.Row.entry k m u f) = (2, (k, SheetRow.entry k l u f))
 
 module _ (sheet file : List ℕ) (w : Bytes file) where

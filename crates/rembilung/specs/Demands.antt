@@ -70,8 +70,8 @@ pub record Demand3 : Type 0 where
   -- the pole checks pass exactly up to the height shown
   pub height-exact : (sheet file out : List ℕ) → Bytes file → (ns : List ℕ) → Answers sheet file out ns
       → (H : ℕ) → H ≤ 6000 → T (poles (jobOf ns) (entriesOf sheet) H) ↔ UpTo H (heightShown (callBuffer sheet file out))
-  -- and at every height that field 7 allows they are verdicts 7 and 8 that the report of the job with that height shows
-  pub poles-shown : (sheet file : List ℕ) → Bytes file → (ns : List ℕ) → Judges sheet file ns
+  -- and at every height that field 7 allows they are verdicts 7 and 8 in the report of the job with that height
+  pub poles-shown : (sheet file ns : List ℕ) → Judges sheet file ns
       → (H : ℕ) → Inside (jobOf (set ns 6 H)) 7 → (out : List ℕ) → reportMost ≤ length out →
       (let shown = callBuffer sheet (encodeAll (set ns 6 H)) out in
       T (poles (jobOf ns) (entriesOf sheet) H) ↔ ((verdictShown shown 6 ≡ 2 → ⊥) × (verdictShown shown 7 ≡ 2 → ⊥)))

@@ -58,7 +58,7 @@ reportOf sheet ns = report (judgement (jobOf ns) (entriesOf sheet))
 
 pub data SheetRow (sheet : List ℕ) : ℕ → ℕ → Type 0 where
   -- 1, length in bytes: sheet isn't 502 bytes
-  long : (length sheet ≡ 502 → ⊥) → SheetRow sheet 1 (length sheet)
+  other-length : (length sheet ≡ 502 → ⊥) → SheetRow sheet 1 (length sheet)
   -- 2, first such k: entry k is 0, above 1,000, above entry k−1, or k = 250 and below 117
   entry : (k : ℕ) → length sheet ≡ 502 → k ≤ 250 → First (Faulty (entriesOf sheet)) k → SheetRow sheet 2 k
 

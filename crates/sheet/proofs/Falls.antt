@@ -11,8 +11,7 @@ use lib.Dec.{ltb, leb, lit<, lit≤}
 use borrow.Author.Tests.{ltb-true, ltb-false, leb-true, leb-false}
 use Rattle.basis.proofs.Order.{mono}
 use Rattle.basis.proofs.Tests.{cases}
-use Rattle.sheet.specs.Rows.{Stands}
-use Rattle.sheet.specs.Rows.{Faulty}
+use Rattle.sheet.specs.Rows.{Faulty, Stands}
 use Rattle.sheet.specs.StabilityFactor.{over, under}
 
 -- where none of the entries up to m is greater than the one before it, a later one is no greater

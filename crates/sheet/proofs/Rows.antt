@@ -20,20 +20,7 @@ use Rattle.sheet.specs.Sheet.{stands, entryStands, fault, examination}
 use Rattle.sheet.specs.Rows.{Faulty, Row, Stands, Told}
 
 module _ (s : List ℕ) where
-  -- an entry is faulty, or it stands
-  faulty : (k : ℕ) → (T (entryStands s k) → ⊥) → Faulty s k
-  unfolding entryStands stands
-  faulty k h =
-      cases (leb 1 (getD s k 0))
-      (λ a. cases (leb (getD s k 0) 1000)
-      (λ b. cases (eqb k 0 || leb (getD s k 0) (getD s (k - 1) 0))
-      (λ c. cases (eqb k 250)
-      (λ d. cases (leb 117 (getD s k 0)) (λ f. absurd (h (rw (a, b, c, d, f) tt))) (λ f. Faulty.low (eqb-true k 250 d) (leb-false 117 (getD s k 0) f)))
-      (λ d. absurd (h (rw (a, b, c, d) tt))))
-      (λ c. let f = either-false (eqb k 0) (leb (getD s k 0) (getD s (k - 1) 0)) c in let z = eqb-false k 0 (f .0) in Faulty.rises (omega arith) (leb-false (getD s k 0) (getD s (k - 1) 0) (f .1))))
-      (λ b. Faulty.great (leb-false (getD s k 0) 1000 b)))
-      (λ a. Faulty.zero (let l = leb-false 1 (getD s k 0) a in omega arith))
-
+  -- an entry stands, or it is faulty
   not-faulty : (k : ℕ) → T (entryStands s k) → Faulty s k → ⊥
   unfolding entryStands stands
   not-faulty k t = go
@@ -56,6 +43,19 @@ module _ (s : List ℕ) where
           (λ z. omega (arith, leb→le 117 (getD s k 0) z))
           (both-right (eqb k 0 || leb (getD s k 0) (getD s (k - 1) 0)) _ later)
 
+  faulty : (k : ℕ) → (T (entryStands s k) → ⊥) → Faulty s k
+  unfolding entryStands stands
+  faulty k h =
+      cases (leb 1 (getD s k 0))
+      (λ a. cases (leb (getD s k 0) 1000)
+      (λ b. cases (eqb k 0 || leb (getD s k 0) (getD s (k - 1) 0))
+      (λ c. cases (eqb k 250)
+      (λ d. cases (leb 117 (getD s k 0)) (λ f. absurd (h (rw (a, b, c, d, f) tt))) (λ f. Faulty.low (eqb-true k 250 d) (leb-false 117 (getD s k 0) f)))
+      (λ d. absurd (h (rw (a, b, c, d) tt))))
+      (λ c. let f = either-false (eqb k 0) (leb (getD s k 0) (getD s (k - 1) 0)) c in let z = eqb-false k 0 (f .0) in Faulty.rises (omega arith) (leb-false (getD s k 0) (getD s (k - 1) 0) (f .1))))
+      (λ b. Faulty.great (leb-false (getD s k 0) 1000 b)))
+      (λ a. Faulty.zero (let l = leb-false 1 (getD s k 0) a in omega arith))
+
   passes : (k : ℕ) → k < fault s → Faulty s k → ⊥
   unfolding fault
   passes k l = not-faulty k (firstFail-passes (entryStands s) 251 0 k (omega arith) l)
@@ -76,7 +76,7 @@ module _ (s : List ℕ) where
 
   row-is : (n p : ℕ) → Row s n p → (0 < n) × (examination s ≡ record { number = n; place = p })
   unfolding examination unless
-  row-is n p (Row.long h) = (lit< tt, rw (ne-eqb (length s) 251 h))
+  row-is n p (Row.other-length h) = (lit< tt, rw (ne-eqb (length s) 251 h))
   row-is n p (Row.entry k l u f) = let e = found k u f in (lit< tt, rw (l, ne-eqb (fault s) 251 (λ z. omega arith), e))
 
   none-is : Stands s → examination s ≡ nothing
@@ -90,7 +90,7 @@ module _ (s : List ℕ) where
       cases (ltb (fault s) 251)
       (λ t. let u = ltb-true (fault s) 251 t in inr (2, (fault s, Row.entry (fault s) e (omega arith) (first u))))
       (λ t. let u = ltb-false (fault s) 251 t in inl (record { long = e; entries = λ k m. passes k (omega arith) })))
-      (λ l. inr (1, (length s, Row.long (eqb-false (length s) 251 l))))
+      (λ l. inr (1, (length s, Row.other-length (eqb-false (length s) 251 l))))
 
   follows : Follows (examination s) (Row s) (Stands s)
   follows = record { row = row-is; none = none-is; every = every-is }

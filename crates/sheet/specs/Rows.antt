@@ -17,7 +17,7 @@ pub data Faulty (sheet : List ℕ) (k : ℕ) : Type 0 where
 -- the row that applies, with its number and its place: 2 where 1 does not
 pub data Row (sheet : List ℕ) : ℕ → ℕ → Type 0 where
   -- 1, length in entries: sheet isn't 251 entries
-  long : (length sheet ≡ 251 → ⊥) → Row sheet 1 (length sheet)
+  other-length : (length sheet ≡ 251 → ⊥) → Row sheet 1 (length sheet)
   -- 2, first such k
   entry : (k : ℕ) → length sheet ≡ 251 → k ≤ 250 → First (Faulty sheet) k → Row sheet 2 k
 
