@@ -14,6 +14,7 @@ use Rattle.groups.specs.Decode.{laterGroups, lastGroup, extend, limit, d
 use Rattle.groups.specs.Rows.{Continued, grouped, Damaged}
 use Rattle.groups.specs.declared.Decoded.the-variants.{Number, Malformed}
 use Rattle.groups.proofs.Encode.{cap}
+use Rattle.groups.proofs.Decode.{first-alone, first-continued, later-continued}
 use Rattle.groups.proofs.Numbers.{differ}
 
 later-ends : (f : ℕ) (bs : List ℕ) → Continued bs → laterGroups f bs ≡ Malformed
@@ -45,27 +46,15 @@ extend-number : (g v k : ℕ) → extend g (Number v k) ≡ Number (g % 128 + 12
 unfolding extend
 extend-number g v k = let a : v * 128 + g % 128 ≡ g % 128 + 128 * v = omega arith in rw (a, add-one)
 
-later-more : (f g : ℕ) (bs : List ℕ) → 128 ≤ g → laterGroups (suc f) (g ∷ bs) ≡ extend g (laterGroups f bs)
-unfolding laterGroups
-later-more f g bs l = rw (le-ltb g 128 l)
-
 later-read : (f : ℕ) (gs rest : List ℕ) (b : ℕ) → Continued gs → 0 < b → b < 128 → Read f gs rest b
 unfolding laterGroups Continued extend lastGroup grouped cap
 later-read zero [] rest b c p l = inl (let e : b % 128 + 128 * 0 ≡ b = omega arith in rw (lt-ltb b 128 l, ne-eqb b 0 (λ z. omega arith), e))
 later-read (suc f) [] rest b c p l = inl (let e : b % 128 + 128 * 0 ≡ b = omega arith in rw (lt-ltb b 128 l, ne-eqb b 0 (λ z. omega arith), e))
 later-read zero (g ∷ gs) rest b c p l = inr (rw (le-ltb g 128 (c .0)), omega (arith, grouped-pos gs b p l))
 later-read (suc f) (g ∷ gs) rest b c p l =
-    let s = later-more f g (gs ++ (b ∷ rest)) (c .0) in
+    let s = later-continued f g (gs ++ (b ∷ rest)) (c .0) in
     ⊎-elim (λ e. inl (s ∙ ap (extend g) e ∙ extend-number g _ _)) (λ e. inr (s ∙ ap (extend g) (e .0), omega (arith, e .1)))
     (later-read f gs rest b (c .1) p l)
-
-decode-one : (b : ℕ) (bs : List ℕ) → b < 128 → decode (b ∷ bs) ≡ Number b 1
-unfolding decode
-decode-one b bs l = rw (lt-ltb b 128 l)
-
-decode-more : (g : ℕ) (bs : List ℕ) → 128 ≤ g → decode (g ∷ bs) ≡ limit (extend g (laterGroups 3 bs))
-unfolding decode
-decode-more g bs l = rw (le-ltb g 128 l)
 
 limit-great : (v k : ℕ) → 4294967295 < v → limit (Number v k) ≡ Malformed
 unfolding limit
@@ -79,12 +68,12 @@ great-limited v k e = cases (ltb v 4294967296) (λ t. differ (sym (rw t at e))) 
 ends-unread : (bs : List ℕ) → Continued bs → decode bs ≡ Malformed
 unfolding decode Continued limit extend
 ends-unread [] c = refl
-ends-unread (b ∷ bs) c = decode-more b bs (c .0) ∙ ap (λ d. limit (extend b d)) (later-ends 3 bs (c .1))
+ends-unread (b ∷ bs) c = first-continued b bs (c .0) ∙ ap (λ d. limit (extend b d)) (later-ends 3 bs (c .1))
 
 long-unread : (gs rest : List ℕ) → Continued gs → 0 < length gs → decode (gs ++ (0 ∷ rest)) ≡ Malformed
 unfolding Continued limit extend
 long-unread [] rest c h = absurd (omega arith)
-long-unread (g ∷ gs) rest c h = decode-more g (gs ++ (0 ∷ rest)) (c .0) ∙ ap (λ d. limit (extend g d)) (later-zero 3 gs rest (c .1))
+long-unread (g ∷ gs) rest c h = first-continued g (gs ++ (0 ∷ rest)) (c .0) ∙ ap (λ d. limit (extend g d)) (later-zero 3 gs rest (c .1))
 
 great-unread : (gs rest : List ℕ) (b : ℕ) → Continued gs → b < 128 → 4294967295 < grouped (gs ++ (b ∷ [])) → decode (gs ++ (b ∷ rest)) ≡ Malformed
 unfolding Continued limit extend grouped
@@ -93,7 +82,7 @@ great-unread (g ∷ gs) rest b c l h =
     cases (eqb b 0) (λ t. rw (eqb-true b 0 t) (long-unread (g ∷ gs) rest c (omega arith)))
     (λ t.
     let z = eqb-false b 0 t in
-    decode-more g (gs ++ (b ∷ rest)) (c .0)
+    first-continued g (gs ++ (b ∷ rest)) (c .0)
     ∙ ⊎-elim (λ r. ap (λ d. limit (extend g d)) r ∙ ap limit (extend-number g _ _) ∙ limit-great _ _ h) (λ r. ap (λ d. limit (extend g d)) (r .0))
     (later-read 3 gs rest b (c .1) (omega arith) l))
 
@@ -130,7 +119,7 @@ several g gs rest b c l e =
     cases (eqb b 0) (λ t. inl (eqb-true b 0 t))
     (λ t.
     let z = eqb-false b 0 t in
-    let m = sym (decode-more g (gs ++ (b ∷ rest)) (c .0)) ∙ e in
+    let m = sym (first-continued g (gs ++ (b ∷ rest)) (c .0)) ∙ e in
     inr
     (⊎-elim (λ r. great-limited _ _ (sym (ap limit (extend-number g _ _)) ∙ sym (ap (λ d. limit (extend g d)) r) ∙ m)) (λ r. omega (arith, r .1))
     (later-read 3 gs rest b (c .1) (omega arith) l)))
@@ -139,7 +128,7 @@ pub unread-damaged : (bs : List ℕ) → decode bs ≡ Malformed → Damaged bs
 unread-damaged bs e = ⊎-elim Damaged.ends (λ d. go (d .groups) (d .last) (d .rest) (d .is) (d .continued) (d .below)) (ended bs)
   where
     go : (gs : List ℕ) (b : ℕ) (rest : List ℕ) → bs ≡ gs ++ (b ∷ rest) → Continued gs → b < 128 → Damaged bs
-    go [] b rest f c l = differ (sym e ∙ ap decode f ∙ decode-one b rest l)
+    go [] b rest f c l = differ (sym e ∙ ap decode f ∙ first-alone b rest l)
     go (g ∷ gs) b rest f c l =
         ⊎-elim (λ z. Damaged.not-shortest (g ∷ gs) rest (f ∙ ap (λ (x : ℕ). g ∷ gs ++ (x ∷ rest)) z) c (omega arith)) (λ h. Damaged.too-great (g ∷ gs) rest b f c l h)
         (several g gs rest b c l (sym (ap decode f) ∙ e))

@@ -1,4 +1,4 @@
--- Laws of `decode` at an offset of the bytes, and the size of what it reads.
+-- Laws of `decode` by its first byte, at the front and at an offset of the bytes, and the size of what it reads.
 -- Assumes nothing.
 use Prim.Native.Nat.{ℕ, zero, suc, _+_, _-_, _*_, _^_, _≤_, _<_}
 use mathlib.Core.Path.{_≡_, refl, subst}
@@ -21,6 +21,20 @@ pub decoded : {A : Type 0} (d : Decoded) → ((v k : ℕ) → d ≡ Number v k �
 decoded (Number v k) f g = f v k refl
 decoded Malformed f g = g refl
 
+-- a byte without its top bit, and one with it
+pub first-alone : (b : ℕ) (bs : List ℕ) → b < 128 → decode (b ∷ bs) ≡ Number b 1
+unfolding decode
+first-alone b bs l = rw (lt-ltb b 128 l)
+
+pub first-continued : (b : ℕ) (bs : List ℕ) → 128 ≤ b → decode (b ∷ bs) ≡ limit (extend b (laterGroups 3 bs))
+unfolding decode
+first-continued b bs l = rw (le-ltb b 128 l)
+
+pub later-continued : (f b : ℕ) (bs : List ℕ) → 128 ≤ b → laterGroups (suc f) (b ∷ bs) ≡ extend b (laterGroups f bs)
+unfolding laterGroups
+later-continued f b bs l = rw (le-ltb b 128 l)
+
+-- the same at an offset, and the end of the bytes
 pub later-end : (f : ℕ) (s : List ℕ) (at : ℕ) → length s ≤ at → laterGroups f (drop at s) ≡ Malformed
 unfolding laterGroups
 later-end zero s at h = rw (drop-of-length-le s h)
@@ -37,24 +51,21 @@ later-none s at h b = rw (drop-cons s at 0 h, le-ltb _ _ b)
 
 pub later-more : (f : ℕ) (s : List ℕ) (at : ℕ) → 1 ≤ f → at < length s → 128 ≤ getD s at 0
     → laterGroups f (drop at s) ≡ extend (getD s at 0) (laterGroups (f - 1) (drop (at + 1) s))
-unfolding laterGroups
 later-more zero s at f₁ h b = absurd (omega arith)
 later-more (suc f) s at f₁ h b =
     let e : suc f - 1 ≡ f = omega arith in
-    rw (add-one, e, drop-cons s at 0 h, le-ltb _ _ b)
+    rw (add-one, e, drop-cons s at 0 h) (later-continued f (getD s at 0) (drop (suc at) s) b)
 
 pub decode-end : (s : List ℕ) (at : ℕ) → length s ≤ at → decode (drop at s) ≡ Malformed
 unfolding decode
 decode-end s at h = rw (drop-of-length-le s h)
 
 pub decode-one : (s : List ℕ) (at : ℕ) → at < length s → getD s at 0 < 128 → decode (drop at s) ≡ Number (getD s at 0) 1
-unfolding decode
-decode-one s at h b = rw (drop-cons s at 0 h, lt-ltb _ _ b)
+decode-one s at h b = rw (drop-cons s at 0 h) (first-alone (getD s at 0) (drop (suc at) s) b)
 
 pub decode-more : (s : List ℕ) (at : ℕ) → at < length s → 128 ≤ getD s at 0
     → decode (drop at s) ≡ limit (extend (getD s at 0) (laterGroups 3 (drop (at + 1) s)))
-unfolding decode
-decode-more s at h b = rw (drop-cons s at 0 h, le-ltb _ _ b, add-one)
+decode-more s at h b = rw (add-one, drop-cons s at 0 h) (first-continued (getD s at 0) (drop (suc at) s) b)
 
 -- a number below m of at most n bytes
 pub record Within (m n v k : ℕ) : Type 0 where

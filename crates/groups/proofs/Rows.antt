@@ -13,12 +13,12 @@ use Rattle.basis.specs.Refusal.{nothing}
 use Rattle.basis.specs.Rows.{Some}
 use Rattle.groups.specs.Encode.{encode, encodeAll}
 use Rattle.groups.specs.Decode.{Bytes, decode}
-use Rattle.groups.specs.Numbers.{extra, damage}
+use Rattle.groups.specs.Numbers.{extra, damage, values}
 use Rattle.groups.specs.Rows.{Damaged, Starts, Row, Holds, Told}
 use Rattle.groups.proofs.Decode.{decoded, decode-within}
 use Rattle.groups.proofs.Numbers.{number-read}
 use Rattle.groups.proofs.Reading.{damage-here}
-use Rattle.groups.proofs.Files.{damage-after, damage-back}
+use Rattle.groups.proofs.Files.{damage-after, damage-back, values-back}
 use Rattle.groups.proofs.Damaged.{damaged-unread, unread-damaged}
 
 row-is : (count : ℕ) (file : List ℕ) (n p : ℕ) → Row count file n p → (0 < n) × (damage count 0 file ≡ record { number = n; place = p })
@@ -35,6 +35,10 @@ row-is count file n p (Row.trailing ns rest s e h) = (lit< tt, rw (s .is, ← e,
 none-is : (count : ℕ) (file ns : List ℕ) → Holds count file ns → damage count 0 file ≡ nothing
 unfolding extra
 none-is count file ns h = rw (h .is, ← h .long) (rw append-nil at (damage-back ns 0 [] (h .narrow)))
+
+-- the values of a file are the numbers that it holds
+pub holds-values : (count : ℕ) (file ns : List ℕ) → Holds count file ns → values count file ≡ ns
+holds-values count file ns h = rw (h .is, ← h .long) (rw append-nil at (values-back ns [] (h .narrow)))
 
 -- the numbers at the front of a file, up to the count or the first damaged one
 record Parsed (count : ℕ) (file : List ℕ) : Type 0 where

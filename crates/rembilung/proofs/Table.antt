@@ -1,12 +1,12 @@
 -- What each exported call refuses is what the table says.
 -- Assumes nothing.
 use mathlib.Core.Path.{_≡_, _∙_, refl, sym, ap}
-use mathlib.Core.List.{List, [], append-nil}
+use mathlib.Core.List.{List}
 use mathlib.Core.Logic.{_⊎_, inl, inr, ⊎-elim}
-use Prim.Native.Nat.{ℕ, zero, suc, _<_}
+use Prim.Native.Nat.{ℕ, _<_}
 use native.Mathlib.Omega.{arith}
 use lib.Dec.{eqb, leb, lit<}
-use lib.ListN.{length, length-append}
+use lib.ListN.{length}
 use borrow.Author.Tests.{ne-eqb, eqb-true, eqb-false, leb-true, leb-false}
 use Rattle.basis.specs.Refusal.{number, nothing, unless}
 use Rattle.basis.specs.Rows.{Some, Follows}
@@ -22,13 +22,13 @@ use Rattle.job.proofs.Rows.{told as job-told}
 use Rattle.sheet.specs.Bytes.{entries}
 use Rattle.sheet.specs.Sheet as Sheet
 use Rattle.sheet.specs.Rows as Entries
+use Rattle.sheet.proofs.Bytes.{entries-long}
 use Rattle.sheet.proofs.Rows.{told as sheet-told}
 use Rattle.groups.specs.Encode.{encodeAll}
 use Rattle.groups.specs.Decode.{Bytes}
 use Rattle.groups.specs.Numbers.{damage, values}
 use Rattle.groups.specs.Rows as Groups
-use Rattle.groups.proofs.Files.{values-back}
-use Rattle.groups.proofs.Rows.{told as numbers-told}
+use Rattle.groups.proofs.Rows.{holds-values, told as numbers-told}
 use Rattle.jobfile.specs.Read.{readRefusal, jobIn}
 use Rattle.jobfile.specs.Write.{fileOf, writeRefusal}
 use Rattle.jobfile.specs.declared.ReadJob.the-variants.{Accepted, Refused}
@@ -36,10 +36,6 @@ use Rattle.jobfile.proofs.Sizes.{job-narrow}
 use Rattle.jobfile.proofs.Reading.{read-refused, read-done}
 use Rattle.rembilung.specs.Call.{entriesOf, refusalIn, reportIn, text, sheetRefusal, inputRefusal, callRefusal}
 use Rattle.rembilung.specs.Table.{ReadRow, Reads, WriteRow, Writes, SheetStands, SheetRow, InputRow, Judges, CallRow, Answers, reportOf}
-
--- the numbers of a file are those that it holds
-held : (file ns : List ℕ) → Groups.Holds 25 file ns → values 25 file ≡ ns
-held file ns h = rw (h .is, ← h .long) (rw append-nil at (values-back ns [] (h .narrow)))
 
 -- ---- Reading
 
@@ -50,7 +46,7 @@ module _ (file : List ℕ) (w : Bytes file) where
   -- what is refused of a file that holds 25 numbers is refused of their job
   read-job : (ns : List ℕ) → Groups.Holds 25 file ns → readRefusal file ≡ examination (jobOf ns)
   unfolding readRefusal
-  read-job ns h = then-rest bytes-follow (examination (jobOf (values 25 file))) (ns, h) ∙ rw (held file ns h)
+  read-job ns h = then-rest bytes-follow (examination (jobOf (values 25 file))) (ns, h) ∙ rw (holds-values 25 file ns h)
 
   pub read-follows : Follows (readRefusal file) (ReadRow file) ((ns : List ℕ) × Reads file ns)
   unfolding readRefusal
@@ -72,7 +68,7 @@ module _ (file : List ℕ) (w : Bytes file) where
 
 -- the job of a file that reads
 pub reads-job : (file ns : List ℕ) → Bytes file → Reads file ns → jobIn file ≡ Accepted (jobOf ns)
-reads-job file ns w a = sym (rw (held file ns (a .holds)) at (read-done file nothing (sym (read-follows file w .none (ns, a))) refl))
+reads-job file ns w a = sym (rw (holds-values 25 file ns (a .holds)) at (read-done file nothing (sym (read-follows file w .none (ns, a))) refl))
 
 -- 25 numbers that stand are read from their file
 pub stands-reads : (ns : List ℕ) → length ns ≡ 25 → Job.Stands (jobOf ns) → Reads (encodeAll ns) ns
@@ -118,11 +114,6 @@ module _ (ns out : List ℕ) (l : length ns ≡ 25) where
           (λ t. inr (8, (length (encodeAll ns), WriteRow.short s (leb-false (length (encodeAll ns)) (length out) t))))
 
 -- ---- The whole call
-
-entries-long : (bytes : List ℕ) (n : ℕ) → length (entries bytes n) ≡ n
-unfolding entries
-entries-long bytes zero = refl
-entries-long bytes (suc n) = rw (length-append, entries-long bytes n) (omega arith)
 
 module _ (sheet : List ℕ) where
   entries-follow : Follows (Sheet.examination (entriesOf sheet)) (Entries.Row (entriesOf sheet)) (Entries.Stands (entriesOf sheet))
