@@ -36,13 +36,14 @@ extern "C" {
 #endif
 
 /* Bytes of a column sheet: 251 entries of two bytes, low byte first. Entry k, from 0 to 250, is the stability factor in
- * thousandths at slenderness k: 1 to 1,000, none above the entry before it, and the last at least 117. */
+ * thousandths at slenderness k: 1 to 1,000, none above the entry before it, and the last at least 117. Between two
+ * entries the stability factor lies on the straight line; above 250 it is 7320 / slenderness squared. */
 #define REMBILUNG_SHEET_BYTES 502
 /* The numbers of a job. */
 #define REMBILUNG_NUMBERS 25
 /* No job file is longer, and no report: with buffers of these sizes refusal 8 never comes. */
 #define REMBILUNG_FILE_MOST 42
-#define REMBILUNG_REPORT_MOST 167
+#define REMBILUNG_REPORT_MOST 168
 
 /* The numbers of a job in their order: numbers[REMBILUNG_BAY] is the bay. Fields count from 1 in a refusal, so field p
  * is numbers[p - 1]. Beside each: the field, its unit, its range. */
@@ -125,10 +126,11 @@ static inline uint32_t rembilung_place(uint64_t result) {
  *     11 VERDICT FIGURE   pole force N against what the ground under the pad bears
  *     height STABILITY PERMITTED    cm, or "height none" where the pole stands at no height
  *     wind WK MW                    wind pressure, N/m2, and the pole's moment from it, N mm
- *     column Z                      slenderness at which the sheet is read
+ *     column Z                      slenderness at which the sheet is read, in tenths: 1974 is 197.4
  *
  * VERDICT is 1 passes, 2 fails, 0 not due (check 8 alone, in light wind on an open scaffold). Figures are rounded up to
- * a whole number. STABILITY is the greatest height from 0 to 6,000 cm at which checks 7 and 8 hold, the job's own height
+ * a whole number, and so is the slenderness of line "column": up to 250 to a whole tenth, above to a multiple of ten
+ * tenths. STABILITY is the greatest height from 0 to 6,000 cm at which checks 7 and 8 hold, the job's own height
  * set aside. PERMITTED is clause 5.3.7's: less than STABILITY from 2,600 cm on, and at most 5,000 (double row) or 2,400
  * (single row). */
 uint64_t rembilung_verdict(const uint8_t *sheet, size_t sheet_len,
