@@ -4,7 +4,7 @@
 #include <inttypes.h>
 #include <string.h>
 
-/* The columns of a judged row: eleven verdicts, three heights, eleven figures, wind, its moment and the slenderness. */
+/* The columns of a judged row: eleven verdicts, three heights, eleven figures, wind, its moment, tenths of slenderness. */
 #define JUDGED_COLUMNS (2 * CHECKS + 6)
 
 static void put_numbered(FILE *to, char separator, const char *word) {
@@ -20,7 +20,7 @@ static void put_names(FILE *to, char separator, const char *const *names, size_t
 void put_answer_names(FILE *to, char separator) {
     static const char *const front[] = {"name", "result", "refusal", "place", "cell", "words", "first failing check"};
     static const char *const heights[] = {"height", "stability height", "permitted height"};
-    static const char *const back[] = {"wind", "wind moment", "slenderness"};
+    static const char *const back[] = {"wind", "wind moment", "slenderness in tenths"};
     fputs("row", to);
     put_names(to, separator, front, sizeof front / sizeof front[0]);
     put_numbered(to, separator, "check");
@@ -77,7 +77,7 @@ static void put_report(FILE *to, char separator, const Answer *answer) {
     put_numbers(to, separator, report->figures);
     put_number(to, separator, report->wind);
     put_number(to, separator, report->moment);
-    put_number(to, separator, report->slenderness);
+    put_number(to, separator, report->slenderness_tenths);
 }
 
 static void put_empty(FILE *to, char separator, int number) {

@@ -82,7 +82,7 @@ int read_report(const uint8_t *bytes, size_t length, Report *report) {
     report->wind = take_number(&rest, ' ');
     report->moment = take_number(&rest, '\n');
     take_word(&rest, "column ");
-    report->slenderness = take_number(&rest, '\n');
+    report->slenderness_tenths = take_number(&rest, '\n');
     return rest.good && rest.left == 0;
 }
 

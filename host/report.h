@@ -16,7 +16,7 @@ typedef struct {
     uint32_t permitted;
     uint32_t wind;
     uint32_t moment;
-    uint32_t slenderness;
+    uint32_t slenderness_tenths;
 } Report;
 
 /* What each check is about. */

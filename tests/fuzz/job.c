@@ -30,7 +30,7 @@ static size_t print_report(const Report *report, char *to, size_t room) {
     else
         at += (size_t)snprintf(to + at, room - at, "height none\n");
     at += (size_t)snprintf(to + at, room - at, "wind %lu %lu\ncolumn %lu\n", (unsigned long)report->wind,
-                           (unsigned long)report->moment, (unsigned long)report->slenderness);
+                           (unsigned long)report->moment, (unsigned long)report->slenderness_tenths);
     return at;
 }
 
