@@ -36,7 +36,7 @@ static void test_job_j(void) {
     Sheet t = sheet_t();
     File j = file_of(job_j);
     Answer due = gives((uint32_t)report_j().length, report_j());
-    case_begins("job J under sheet T against the paper's text");
+    case_begins("job J under sheet T against the papers' text");
     expect_verdict(sheet_bytes(&t), file_bytes(&j), REMBILUNG_REPORT_MOST, due);
     case_begins("job J under sheet T in a buffer of just its length");
     expect_verdict(sheet_bytes(&t), file_bytes(&j), due.place, due);

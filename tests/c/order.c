@@ -13,7 +13,7 @@ static const uint32_t single[REMBILUNG_NUMBERS] = {2,   2,   108, 180, 150, 2, 1
                                                    136, 351, 914, 2,   600, 1, 223,  1, 16000, 4, 150,  773};
 static const char single_report[] =
     "1 1 1051571\n2 1 3413\n3 2 1481264\n4 1 9650\n5 2 8932\n6 1 159\n7 2 46301\n8 2 40177\n9 1 6675\n10 2 46301\n"
-    "11 2 46301\nheight none\nwind 162 78076\ncolumn 184\n";
+    "11 2 46301\nheight none\nwind 162 78076\ncolumn 1835\n";
 
 typedef struct {
     uint8_t bytes[FILE_ROOM];

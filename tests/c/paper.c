@@ -1,4 +1,4 @@
-/* What the tests take from document 01 by themselves: job J and its report, sheet T, and the groups of a job file. */
+/* What the tests take from the papers by themselves: job J and its report, sheet T, and the groups of a job file. */
 #include "paper.h"
 
 #include <stdio.h>

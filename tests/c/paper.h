@@ -1,4 +1,4 @@
-/* What the tests take from document 01 by themselves: job J and its report, sheet T, and the groups of a job file. */
+/* What the tests take from the papers by themselves: job J and its report, sheet T, and the groups of a job file. */
 #ifndef PAPER_H
 #define PAPER_H
 
@@ -25,7 +25,8 @@ Sheet sheet_t(void);
 Bytes sheet_bytes(const Sheet *sheet);
 void set_entry(Sheet *sheet, int k, uint32_t thousandths);
 uint32_t entry_of(const Sheet *sheet, int k);
-/* J's report, from the file that has the paper's text. */
+/* J's report, from the file that has the papers' text: document 01's, with heights and column as request 1 of document 02
+ * has them. */
 void read_report_j(const char *path);
 Bytes report_j(void);
 

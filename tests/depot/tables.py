@@ -1,4 +1,4 @@
-"""Tables as depots send them and what is due for each, by hand from document 01, its job J and docs/DEPOTS.md."""
+"""Tables as depots send them and what is due for each, by hand from the papers, their job J and docs/DEPOTS.md."""
 
 FIELDS = ["family", "tube", "pole spacing across", "bay", "step", "tie interval", "height", "boards", "boarded layers",
           "working layers", "greatest live load on one layer", "live load summed over layers", "nets per pole",
@@ -7,21 +7,21 @@ FIELDS = ["family", "tube", "pole spacing across", "bay", "step", "tie interval"
 HEAD = ",".join(FIELDS)
 ANSWERS = ("row,name,result,refusal,place,cell,words,first failing check,check 1,check 2,check 3,check 4,check 5,check 6,check 7,"
            "check 8,check 9,check 10,check 11,height,stability height,permitted height,figure 1,figure 2,figure 3,figure 4,"
-           "figure 5,figure 6,figure 7,figure 8,figure 9,figure 10,figure 11,wind,wind moment,slenderness")
+           "figure 5,figure 6,figure 7,figure 8,figure 9,figure 10,figure 11,wind,wind moment,slenderness in tenths")
 
 J = "1,1,105,150,180,2,3000,3,4,2,3000,5000,0,300,300,1000,1,200,1,240,1,8000,4,200,2000"
 J_BACK = "2000,200,4,8000,1,240,1,200,1,1000,300,300,0,5000,3000,2,4,3,3000,2,180,150,105,1,1"
-# J as document 01 reports it: check 11 alone fails.
+# J as document 01 reports it, heights and slenderness as request 1 of document 02 has them: check 11 alone fails.
 J_DUE = ("fails,,,,check 11 fails: pole force against what the ground under the pad bears,11,1,1,1,1,1,1,1,0,1,1,2,"
-         "3000,3210,3110,477521,1584,571785,2777,4160,171,20093,19030,5953,20093,20093,42,24291,198")
+         "3000,3277,3173,477521,1584,571785,2777,4160,171,20093,19030,5953,20093,20093,42,24291,1974")
 # Document 01: J with strength 201 passes 11.
 PASS = "1,1,105,150,180,2,3000,3,4,2,3000,5000,0,300,300,1000,1,200,1,240,1,8000,4,201,2000"
 PASS_DUE = ("passes,,,,,,1,1,1,1,1,1,1,0,1,1,1,"
-            "3000,3210,3110,477521,1584,571785,2777,4160,171,20093,19030,5953,20093,20093,42,24291,198")
+            "3000,3277,3173,477521,1584,571785,2777,4160,171,20093,19030,5953,20093,20093,42,24291,1974")
 # The second job of tests/vectors/jobs.txt: a single row that stands at no height.
 SINGLE = "2,2,108,180,150,2,1118,1,7,1,5467,30000,804,136,351,914,2,600,1,223,1,16000,4,150,773"
 SINGLE_DUE = ("fails,,,,check 3 fails: ledger moment,3,1,1,2,1,2,1,2,2,1,2,2,"
-              "1118,none,none,1051571,3413,1481264,9650,8932,159,46301,40177,6675,46301,46301,162,78076,184")
+              "1118,none,none,1051571,3413,1481264,9650,8932,159,46301,40177,6675,46301,46301,162,78076,1835")
 
 ONLY_DIGITS = "; digits alone are read, no thousands separator, decimals, sign or unit"
 LAST = "; neither this row nor any after it was judged"

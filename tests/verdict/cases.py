@@ -1,12 +1,12 @@
 """The cases of the program verdict: what stands in column.dat and comes on standard input, and what is printed.
 
-What is printed was worked out by hand from document 01, not taken from the program.
+What is printed was worked out by hand from the papers, not taken from the program.
 """
 
 # job J, its fields by number from 1
 J = [1, 1, 105, 150, 180, 2, 3000, 3, 4, 2, 3000, 5000, 0, 300, 300, 1000, 1, 200, 1, 240, 1, 8000, 4, 200, 2000]
 
-# document 01: the whole report of job J under sheet T
+# document 01: the whole report of job J under sheet T; heights and column as request 1 of document 02 has them
 REPORT = """1 1 477521
 2 1 1584
 3 1 571785
@@ -18,9 +18,9 @@ REPORT = """1 1 477521
 9 1 5953
 10 1 20093
 11 2 20093
-height 3210 3110
+height 3277 3173
 wind 42 24291
-column 198
+column 1974
 """
 
 def groups(n):
