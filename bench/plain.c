@@ -1,4 +1,5 @@
-/* The whole call in plain C, from document 01 as docs/DECISIONS.md reads it: what the library is measured against.
+/* The whole call in plain C, from document 01 and request 1 of document 02 as docs/DECISIONS.md reads them: what the library
+ * is measured against.
  *
  * Whole numbers throughout, each formula cleared of its fractions. Lengths are in cm, as in the job. The stability height
  * is found by division, a quotient for each of the two pole checks, and not by a search: that is the shorter way. */
@@ -6,7 +7,7 @@
 
 #include <string.h>
 
-enum { NUMBERS = 25, ENTRIES = 251, CHECKS = 11, TEXT_ROOM = 256 };
+enum { NUMBERS = 25, ENTRIES = 251, SHEET_TENTHS = 2500, CHECKS = 11, TEXT_ROOM = 256 };
 enum { DOUBLE_ROW = 1, SINGLE_ROW = 2, OPEN = 1, HALF_CLOSED = 2, CLOSED_WALL = 1 };
 enum { STRENGTH = 205, ELASTICITY = 206000, HEIGHT_MOST = 6000, NO_HEIGHT = -1 };
 
@@ -33,7 +34,7 @@ typedef struct {
     int verdict[CHECKS];
     uint64_t figure[CHECKS];
     int stability, permitted;
-    uint64_t pressure, moment, slenderness;
+    uint64_t pressure, moment, slenderness_tenths;
 } Judgement;
 
 static const Tube tubes[] = {{489, 5080, 158, 121900}, {452, 5130, 170, 130800}};
@@ -157,10 +158,21 @@ static uint64_t length_factor(const Job *j) {
     return double_factor[(j->spacing - 105) / 25][j->interval - 2];
 }
 
-static Factor stability_factor(const uint8_t *sheet, uint64_t slenderness) {
-    if (slenderness < ENTRIES)
-        return (Factor){entry(sheet, slenderness), 1000};
-    return (Factor){7320, slenderness * slenderness};
+/* Up to the sheet's end to a tenth, beyond it to a whole number. */
+static uint64_t slenderness_tenths(const Job *j, const Tube *tube) {
+    uint64_t above = 1155 * length_factor(j) * j->step, below = 1000 * tube->radius_tenths;
+    uint64_t tenths = divide_up(10 * above, below);
+    return tenths <= SHEET_TENTHS ? tenths : 10 * divide_up(above, below);
+}
+
+/* On the straight line between neighbouring entries; the last has no neighbour behind it. */
+static Factor stability_factor(const uint8_t *sheet, uint64_t tenths) {
+    uint64_t whole = tenths / 10, rest = tenths % 10;
+    if (tenths > SHEET_TENTHS)
+        return (Factor){7320, whole * whole};
+    if (rest == 0)
+        return (Factor){entry(sheet, whole), 1000};
+    return (Factor){entry(sheet, whole) * (10 - rest) + entry(sheet, whole + 1) * rest, 10000};
 }
 
 static Loads loads_of(const Job *j) {
@@ -260,8 +272,8 @@ static void judge(const uint8_t *sheet, const Job *j, Judgement *g) {
     Loads loads = loads_of(j);
     g->pressure = wind_pressure(j);
     g->moment = divide_up(119 * g->pressure * j->bay * j->step * j->step, 1000000);
-    g->slenderness = divide_up(1155 * length_factor(j) * j->step, 1000 * tube->radius_tenths);
-    Factor phi = stability_factor(sheet, g->slenderness);
+    g->slenderness_tenths = slenderness_tenths(j, tube);
+    Factor phi = stability_factor(sheet, g->slenderness_tenths);
     check_transom(j, tube, g);
     check_ledger(j, tube, g);
     check_pole(j, tube, &loads, phi, g);
@@ -310,7 +322,7 @@ static size_t write_text(const Judgement *g, char *text) {
     }
     to = put_pair(to, "wind ", g->pressure, ' ');
     to = put_pair(to, "", g->moment, '\n');
-    to = put_pair(to, "column ", g->slenderness, '\n');
+    to = put_pair(to, "column ", g->slenderness_tenths, '\n');
     return (size_t)(to - text);
 }
 
