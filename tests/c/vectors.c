@@ -8,7 +8,7 @@
 /* Lengths tried beyond the greatest that anything needs. */
 enum { BEYOND = 33 };
 
-/* A job under sheet 0 (T) or 1 (C) with its file, its numbers where the file can be read, and the answer due. */
+/* A job under one of the sheets with its file, its numbers where the file can be read, and the answer due. */
 typedef struct {
     const char *from;
     int line;
@@ -29,12 +29,6 @@ typedef struct {
 
 #include "vectors.h"
 
-static Bytes sheet_of(const Vector *vector) {
-    static Sheet t;
-    t = sheet_t();
-    return vector->sheet == 0 ? sheet_bytes(&t) : sheet_c;
-}
-
 /* The answer due where the buffer has this length: refusal 8 names the whole length needed. */
 static Answer due_in(Answer due, size_t length) {
     return due.refusal == 0 && length < due.place ? refused(8, due.place) : due;
@@ -43,7 +37,7 @@ static Answer due_in(Answer due, size_t length) {
 static void whole_call(const Vector *vector) {
     for (size_t length = 0; length <= REMBILUNG_REPORT_MOST + BEYOND; length++) {
         case_begins("%s:%d: verdict, report buffer of %zu", vector->from, vector->line, length);
-        expect_verdict(sheet_of(vector), vector->file, length, due_in(vector->due, length));
+        expect_verdict(sheets[vector->sheet], vector->file, length, due_in(vector->due, length));
     }
 }
 
@@ -127,8 +121,13 @@ static void all_sheets(void) {
         under_sheet(&sheet_vectors[k]);
 }
 
+static void all_of(const Vector *rows, size_t count) {
+    for (size_t k = 0; k < count; k++)
+        every_call(&rows[k]);
+}
+
 void test_vectors(void) {
     all_sheets();
-    for (size_t k = 0; k < sizeof vectors / sizeof *vectors; k++)
-        every_call(&vectors[k]);
+    all_of(vectors, sizeof vectors / sizeof *vectors);
+    all_of(request_verdicts, sizeof request_verdicts / sizeof *request_verdicts);
 }

@@ -12,6 +12,10 @@ def packed(entries):
     return b"".join(entry.to_bytes(2, "little") for entry in entries)
 
 
+def entries_in(data):
+    return [int.from_bytes(data[k:k + 2], "little") for k in range(0, len(data), 2)]
+
+
 def a_line_each(entries):
     return "".join(f"{entry}\n" for entry in entries)
 
