@@ -4,10 +4,10 @@ use Prim.Native.Nat.{ℕ, zero, suc, _*_, _-_, max}
 use mathlib.Core.List.{List, [], _∷_}
 
 -- f at each number below n, before l
-unfoldable pub below : (ℕ → ℕ) → ℕ → List ℕ → List ℕ
-below f zero l = l
-below f (suc n) l = below f n (f n ∷ l)
+unfoldable pub tabulated : (ℕ → ℕ) → ℕ → List ℕ → List ℕ
+tabulated f zero l = l
+tabulated f (suc n) l = tabulated f n (f n ∷ l)
 
 unfoldable pub sheetT : List ℕ
-unfolding below
-sheetT = below (λ k. max (1000 - 4 * k) 150) 251 []
+unfolding tabulated
+sheetT = tabulated (λ k. max (1000 - 4 * k) 150) 251 []

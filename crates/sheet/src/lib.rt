@@ -6,7 +6,7 @@ ghost use Rattle.basis.specs.Search.{firstFail};
 ghost use Rattle.sheet.specs.Sheet.{stands, entryStands, examination};
 ghost use Rattle.sheet.specs.Rows.{Stands};
 ghost use Rattle.sheet.specs.Pass.{falling, sound};
-ghost use Rattle.sheet.specs.StabilityFactor.{Reading};
+ghost use Rattle.sheet.specs.StabilityFactor.{between, Reading};
 ghost use Rattle.sheet.specs.Bytes.{entry, entries};
 use basis::NOTHING;
 use basis::Refusal;
@@ -124,22 +124,33 @@ pub struct StabilityFactor {
     pub under: u64,
 }
 
-// The stability factor of a sheet at the slenderness z.
+// Between two entries, r tenths of the way from the first to the second, in ten-thousandths.
+fn between_of(a: u32, b: u32, r: u64) -> u64
+    requires { ⌜ (a ≤ 1000) × (b ≤ 1000) × (r ≤ 10) ⌝ }
+    ensures { λ x. ⌜ x ≡ between a b r ⌝ }
+{
+    let a = a as u64;
+    let b = b as u64;
+    a * (10 - r) + b * r
+}
+
+// The stability factor of a sheet at a slenderness of z tenths.
 // requires: judge shows that the sheet stands and that no accepted job is more slender.
 pub fn stability_factor(sheet: &[u16], z: u64) -> StabilityFactor
-    requires { ⌜ Stands (now sheet) × (z ≤ 293) ⌝ }
+    requires { ⌜ Stands (now sheet) × (z ≤ 2930) ⌝ }
     ensures { λ r. ⌜ Reading r (now (sheet .entry)) z ⌝ }
 {
-    if z <= 250 {
-        let at = z as usize;
-        let e = wide(sheet[at]);
+    let above = (z + 9) / 10;
+    if z <= 2500 {
+        let at = (z / 10) as usize;
+        let to = above as usize;
         return StabilityFactor {
-            over: e as u64,
-            under: 1000,
+            over: between_of(wide(sheet[at]), wide(sheet[to]), z % 10),
+            under: 10000,
         };
     }
     StabilityFactor {
         over: 7320,
-        under: z * z,
+        under: above * above,
     }
 }
