@@ -1,11 +1,11 @@
--- Document 01, from "Constants" to "Heights", in its order and its symbols: lengths in metres, forces in N, loads in N/m² and N/m.
+-- Document 01, from "Constants" to "Heights", in its order and its symbols, with what document 02 changes of it: lengths in metres, forces in N, loads in N/m² and N/m.
 -- Assumes nothing.
 use Prim.Native.Nat.{ℕ, zero, suc, min}
 use mathlib.Core.Bool.{Bool, true, false, _&&_, _||_, cond}
 use mathlib.Core.List.{List, [], _∷_}
 use lib.ListN.{getD}
-use lib.Dec.{leb, ltb, eqb}
-use Rattle.basis.specs.Fraction.{Ratio, whole, tenths, hundredths, thousandths, _⊕_, _⊗_, _⊘_, _÷_, _², _³, _⁴, _≼_, up, down, fractions}
+use lib.Dec.{ltb, eqb}
+use Rattle.basis.specs.Fraction.{Ratio, whole, tenths, hundredths, thousandths, _⊕_, _⊖_, _⊗_, _⊘_, _÷_, _², _³, _⁴, _≼_, up, down, fractions}
 use Rattle.job.specs.declared.Job.{Job}
 use Rattle.section5.specs.Decimals.{0·001, 0·175, 0·213, 0·30, 0·7, 1·0, 1·146, 1·155, 1·19, 1·2, 1·3, 1·4, 1·615, 2·15, 2·30}
 use Rattle.section5.specs.declared.Height.{Height}
@@ -95,9 +95,22 @@ windPressure exposure shape w0 = up (0·7 ⊗ exposure ⊗ shape ⊗ w0)
 unfoldable pub windMoment : ℕ → Ratio → Ratio → ℕ
 windMoment wk la h = up (mm (1·19 ⊗ whole wk ⊗ la ⊗ h ² ÷ 10))
 
--- stability factor: the sheet's entry at Z, divided by 1000, for Z up to 250, and 7320 / Z² above
-unfoldable pub stabilityFactor : List ℕ → ℕ → Ratio
-stabilityFactor sheet Z = cond (leb Z 250) (thousandths (getD sheet Z 0)) (whole 7320 ⊘ whole Z ²)
+-- column slenderness x, rounded: up to a tenth where it is at most 250, up to a whole number above (02, request 1)
+unfoldable pub rounded : Ratio → Ratio
+rounded x = cond (x ≼ whole 250) (tenths (up (whole 10 ⊗ x))) (whole (up x))
+
+-- the sheet's entry k, divided by 1000
+unfoldable pub entry : List ℕ → ℕ → Ratio
+entry sheet k = thousandths (getD sheet k 0)
+
+-- on the straight line from a to b, the part r of the way
+unfoldable pub between : Ratio → Ratio → Ratio → Ratio
+between a b r = a ⊗ (whole 1 ⊖ r) ⊕ b ⊗ r
+
+-- stability factor: up to 250 on the straight line between neighbouring entries, those at Z down and Z up to a whole number; 7320 / Z² above (02, request 1)
+unfoldable pub stabilityFactor : List ℕ → Ratio → Ratio
+stabilityFactor sheet Z =
+    cond (Z ≼ whole 250) (between (entry sheet (down Z)) (entry sheet (up Z)) (Z ⊖ whole (down Z))) (whole 7320 ⊘ Z ²)
 
 -- what the ground bears, N: soil factor × strength (kPa) × pad (cm²)
 unfoldable pub groundCapacity : ℕ → ℕ → ℕ → Ratio
@@ -247,9 +260,12 @@ module _ (j : Job) where
   unfoldable pub Mw : ℕ
   Mw = windMoment wk la h
 
-  -- column slenderness, up to a whole number
-  unfoldable pub Z : ℕ
-  Z = up (1·155 ⊗ factor ⊗ mm h ⊘ i)
+  -- column slenderness; unrounded, and as the sheet is read at it
+  unfoldable pub exactZ : Ratio
+  exactZ = 1·155 ⊗ factor ⊗ mm h ⊘ i
+
+  unfoldable pub Z : Ratio
+  Z = rounded exactZ
 
   -- stability factor
   unfoldable pub φ : List ℕ → Ratio
@@ -393,6 +409,10 @@ module _ (j : Job) where
 
   -- ---- what a report tells
 
+  -- Z in tenths, a whole number of them
+  unfoldable pub column : ℕ
+  column = up (whole 10 ⊗ Z)
+
   unfoldable pub judgement : List ℕ → Judgement
   judgement sheet =
       record {
@@ -401,7 +421,7 @@ module _ (j : Job) where
         heights = heights (stability sheet);
         wk = wk;
         mw = Mw;
-        z = Z;
+        z = column;
       }
 
 -- on an `unfolding` line: the job and the constants, and with `paper` all the figures and checks too
@@ -410,5 +430,5 @@ unfolding mm tubeArea tubeModulus tubeRadius tubeInertia f E soilFactor lb la h 
 given = tt
 
 unfoldable pub paper : Unit {0}
-unfolding fractions given greatest factorAt lengthFactor windPressure windMoment stabilityFactor groundCapacity bears bends baseBears groundBears shape wk b G2 L G1 exactN exactNw N Nw Mw Z φ Fg Fq Pg Pq moment1 check1 deflection2 check2 moment3 check3 deflection4 check4 slip check5 slenderness check6 check7 check8 notDue tieForce check9 check10 check11 verdicts figures poles stability permitted heights judgement
+unfolding fractions given greatest factorAt lengthFactor windPressure windMoment rounded entry between stabilityFactor groundCapacity bears bends baseBears groundBears shape wk b G2 L G1 exactN exactNw N Nw Mw exactZ Z φ Fg Fq Pg Pq moment1 check1 deflection2 check2 moment3 check3 deflection4 check4 slip check5 slenderness check6 check7 check8 notDue tieForce check9 check10 check11 verdicts figures poles stability permitted heights column judgement
 paper = tt

@@ -26,5 +26,6 @@ pub struct Judgement {
     pub heights: Heights,
     pub wk: u64,
     pub mw: u64,
+    // Z in tenths
     pub z: u64,
 }
