@@ -9,15 +9,16 @@ use Rattle.job.specs.declared.Job.{Job}
 use Rattle.section5.specs.Section5 as P
 use Rattle.section5.specs.Harsher.{Harsher}
 use Rattle.section5.proofs.LengthFactor.{lengthFactor-grows}
-use Rattle.calculation.specs.Whole.{radius, soilFactor, groundCapacity, shape, windPressure, windMoment, wk, mw, deck, fittings, deckLive, deckLoad, raised, load, force, forceWind, columnSlenderness, transomMoment, transomLoad, ledgerMoment, ledgerLoad, slip, face, tieForce}
+use Rattle.calculation.specs.Whole.{radius, soilFactor, groundCapacity, shape, windPressure, windMoment, wk, mw, deck, fittings, deckLive, deckLoad, raised, load, force, forceWind, columnTenths, columnSlenderness, transomMoment, transomLoad, ledgerMoment, ledgerLoad, slip, face, tieForce}
+use Rattle.calculation.proofs.Slenderness.{roundedTenths-grows}
 
 module _ {j k : Job} (h : Harsher j k) where
   pub factor-grows : P.lengthFactor (j .family) (j .lb) (j .ties) ≤ P.lengthFactor (k .family) (k .lb) (k .ties)
   factor-grows = lengthFactor-grows (h .family) (h .lb) (h .ties)
 
   pub columnSlenderness-grows : columnSlenderness j ≤ columnSlenderness k
-  unfolding columnSlenderness
-  columnSlenderness-grows = ceil-grows (search (mono, factor-grows) depth 12) (ap (λ (t : ℕ). 1000 * radius t) (h .tube))
+  unfolding columnTenths columnSlenderness
+  columnSlenderness-grows = roundedTenths-grows (ceil-grows (search (mono, factor-grows) depth 12) (ap (λ (t : ℕ). 100 * radius t) (h .tube)))
 
   pub wk-grows : wk j ≤ wk k
   unfolding wk windPressure shape

@@ -10,8 +10,8 @@ use Rattle.basis.proofs.Tests.{Keeps, both-keep, either-keep, le-keep, eq-keep}
 use Rattle.job.specs.declared.Job.{Job}
 use Rattle.job.specs.Bounds.{Bounds}
 use Rattle.sheet.specs.Rows.{Stands}
-use Rattle.sheet.specs.StabilityFactor.{over, under}
-use Rattle.sheet.proofs.Falls.{Weaker, weakens}
+use Rattle.sheet.specs.StabilityFactor.{over, under, Weaker}
+use Rattle.sheet.proofs.Falls.{weakens}
 use Rattle.section5.specs.Harsher.{Harsher}
 use Rattle.calculation.specs.Whole.{area, modulus, radius, stiffness, slenderLimit, wk, mw, deckLoad, load, force, forceWind, columnSlenderness, columnAt, columnOf, check1, check2, check3, check4, check5, check6, bears, bends, notDue, check9, baseBears, groundBears, verdicts, poles}
 use Rattle.calculation.proofs.Verdicts.{fails, fails-due, Worse, none, next}
@@ -55,7 +55,7 @@ module _ (s : List ℕ) {j k : Job} (h : Harsher j k) (b : Bounds k) (f : Stands
   keep6 = le-keep (mul-le-mul (factor-grows h) (h .step)) (mul-le-mul (limit slenderLimit (h .family)) (limit radius (h .tube)))
 
   weaker : Weaker (over s (columnSlenderness j)) (under (columnSlenderness j)) (over s (columnSlenderness k)) (under (columnSlenderness k))
-  weaker = weakens s f (columnSlenderness-grows h)
+  weaker = weakens .weaker s f (columnSlenderness-grows h)
 
   keep7 : {n n′ : ℕ} → n ≤ n′ → Keeps (bears (columnOf s j) n) (bears (columnOf s k) n′)
   unfolding columnOf columnAt

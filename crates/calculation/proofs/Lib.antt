@@ -1,4 +1,5 @@
 pub mod Stability
+pub mod Slenderness
 pub mod Same
 pub mod Growth
 pub mod Verdicts

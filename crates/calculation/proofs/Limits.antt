@@ -7,7 +7,7 @@ use native.Mathlib.Nat.{mul-le-mul, mul-le-mul-left, mul-le-mul-right, le-of-eq,
 use native.Mathlib.Omega.{arith}
 use lib.Dec.{T, leb, leb→le, le→leb}
 use Rattle.basis.proofs.Tests.{Keeps, both-keep, leb-keep, le-keep, leb-same}
-use Rattle.sheet.proofs.Falls.{Weaker}
+use Rattle.sheet.specs.StabilityFactor.{Weaker}
 use Rattle.calculation.specs.declared.columns.Column.{Column}
 use Rattle.calculation.specs.Whole.{deflects, bears, bends}
 

@@ -14,9 +14,10 @@ use Rattle.job.specs.Bounds.{Bounds}
 use Rattle.section5.proofs.LengthFactor.{lengthFactor-most}
 use Rattle.calculation.specs.declared.loads.Load.{Load}
 use Rattle.calculation.specs.declared.columns.Column.{Column}
-use Rattle.calculation.specs.Whole.{board, rail, stiffness, overhang, shapeUnit, tieBase, heightLimit, shape, windPressure, windMoment, wk, mw, deck, fittings, deckLive, deckLoad, raised, load, force, forceWind, columnSlenderness, slenderness, transomMoment, transomLoad, transomDeflection, ledgerMoment, ledgerLoad, ledgerDeflection, slip, face, tieForce, permitted}
+use Rattle.calculation.specs.Whole.{board, rail, stiffness, overhang, shapeUnit, tieBase, heightLimit, shape, windPressure, windMoment, wk, mw, deck, fittings, deckLive, deckLoad, raised, load, force, forceWind, roundedTenths, columnTenths, columnSlenderness, slenderness, transomMoment, transomLoad, transomDeflection, ledgerMoment, ledgerLoad, ledgerDeflection, slip, face, tieForce, permitted}
 use Rattle.calculation.specs.Division.{limit7, limit8}
 use Rattle.calculation.specs.Bounded.{WithinSixteen, Proper}
+use Rattle.calculation.proofs.Slenderness.{roundedTenths-grows}
 
 pub board-most : (b : ℕ) → board b ≤ 350
 board-most b = cond-below (eqb b 1) (lit≤ tt) (le-refl 350)
@@ -57,6 +58,10 @@ pub windMoment-most : {w la step : ℕ} → w ≤ 17472 → la ≤ 200 → step 
 unfolding windMoment ceil
 windMoment-most w a s = ceil-below 1000000 (119 * 17472 * 200 * (200 * 200)) tt (search mono depth 12)
 
+pub roundedTenths-most : {t : ℕ} → t ≤ 2930 → roundedTenths t ≤ 2930
+unfolding roundedTenths ceil
+roundedTenths-most l = roundedTenths-grows {u = 2930} l
+
 pub deck-most : (family : ℕ) {lb : ℕ} → lb ≤ 155 → deck family lb ≤ 155 + 30
 unfolding deck
 deck-most family l = search (mono, overhang-most) depth 12
@@ -88,9 +93,13 @@ module _ {j : Job} (r : Bounds j) where
   unfolding transomMoment ceil
   transomMoment-most = ceil-below 160000 ((12 * 350 + 14 * 10000) * 200 * (155 * 155)) tt (search (mono, board-most) depth 12)
 
-  pub columnSlenderness-most : columnSlenderness j ≤ 293
-  unfolding columnSlenderness ceil
-  columnSlenderness-most = tube-below (j .tube) (λ i. 1000 * i) 158 170 (1155 * 200 * 200) tt tt (search (mono, lengthFactor-most) depth 12)
+  pub columnTenths-most : columnTenths j ≤ 2930
+  unfolding columnTenths ceil
+  columnTenths-most = tube-below (j .tube) (λ i. 100 * i) 158 170 (1155 * 200 * 200) tt tt (search (mono, lengthFactor-most) depth 12)
+
+  pub columnSlenderness-most : columnSlenderness j ≤ 2930
+  unfolding columnSlenderness
+  columnSlenderness-most = roundedTenths-most columnTenths-most
 
   pub slenderness-most : slenderness j ≤ 999
   unfolding slenderness ceil

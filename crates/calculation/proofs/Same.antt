@@ -3,30 +3,41 @@
 use mathlib.Core.Path.{_≡_, refl, ap, ap₂, _∙_, fun-ext}
 use mathlib.Core.Bool.{Bool, _&&_}
 use mathlib.Core.List.{List}
-use Prim.Native.Nat.{ℕ, zero, suc, _+_, _*_, _/_}
+use Prim.Native.Nat.{ℕ, zero, suc, _+_, _*_, _/_, _<_}
 use native.Mathlib.Omega.{arith}
-use lib.Dec.{leb, eqb}
+use lib.Dec.{leb, eqb, lit<}
+use borrow.Author.Tests.{le-leb, lt-leb}
 use Rattle.basis.specs.Search.{top}
-use Rattle.basis.specs.Fraction.{fractions, whole, hundredths, _⊕_, _⊗_, _⊘_, _÷_, _≼_, up, down}
+use Rattle.basis.specs.Fraction.{Ratio, fractions, whole, hundredths, _⊕_, _⊗_, _⊘_, _÷_, _≼_, up, down}
 use Rattle.basis.proofs.Tests.{cases, same, tests}
 use Rattle.basis.proofs.Scale.{up-is, up-by, down-is}
 use Rattle.job.specs.declared.Job.{Job}
-use Rattle.sheet.specs.StabilityFactor.{over, under}
+use Rattle.sheet.specs.StabilityFactor.{above, line, over, under}
 use Rattle.section5.specs.Decimals.{0·001}
 use Rattle.section5.specs.Section5 as P
 use Rattle.calculation.specs.Whole as W
 use Rattle.calculation.specs.Whole.{fromCount}
 use Rattle.calculation.proofs.Stability.{greatest-top}
+use Rattle.calculation.proofs.Slenderness.{read-by, tenths-same}
 
--- checks 7, 8, 10 and 11 of any force, under any sheet and slenderness
-module _ (s : List ℕ) (tube z n : ℕ) where
-  pub bears-same : P.bears (P.stabilityFactor s z) (P.tubeArea tube) n ≡ W.bears (W.columnAt s tube z) n
-  unfolding fractions _≼_ P.given P.stabilityFactor P.bears over under W.columnAt W.bears
-  bears-same = cases (leb z 250) (λ e. rw e (same _ _ (omega tests))) (λ e. rw e (same _ _ (omega tests)))
+above-tens : (c : ℕ) → above (10 * c) ≡ c
+above-tens c = omega arith
 
-  pub bends-same : (m : ℕ) → P.bends (P.stabilityFactor s z) (P.tubeArea tube) (P.tubeModulus tube) n m ≡ W.bends (W.columnAt s tube z) n m
-  unfolding fractions _≼_ P.given P.stabilityFactor P.bends over under W.columnAt W.bends
-  bends-same m = cases (leb z 250) (λ e. rw e (same _ _ (omega tests))) (λ e. rw e (same _ _ (omega tests)))
+-- checks 7, 8, 10 and 11 of any force; 7 and 8 under any sheet, at a slenderness x that is t tenths up
+module _ (x : Ratio) (pos : 0 < x .under) {t : ℕ} (is : up (whole 10 ⊗ x) ≡ t) (s : List ℕ) (tube n : ℕ) where
+  pub bears-same : P.bears (P.stabilityFactor s (P.rounded x)) (P.tubeArea tube) n ≡ W.bears (W.columnAt s tube (W.roundedTenths t)) n
+  unfolding fractions _≼_ P.given P.entry P.bears line over under W.columnAt W.bears
+  bears-same =
+      read-by x pos is s (λ φ z. P.bears φ (P.tubeArea tube) n ≡ W.bears (W.columnAt s tube z) n)
+      (λ l. rw (le-leb t 2500 l) (same _ _ (omega tests)))
+      (λ c l. rw (lt-leb (10 * c) 2500 (omega arith), above-tens c) (same _ _ (omega tests)))
+
+  pub bends-same : (m : ℕ) → P.bends (P.stabilityFactor s (P.rounded x)) (P.tubeArea tube) (P.tubeModulus tube) n m ≡ W.bends (W.columnAt s tube (W.roundedTenths t)) n m
+  unfolding fractions _≼_ P.given P.entry P.bends line over under W.columnAt W.bends
+  bends-same m =
+      read-by x pos is s (λ φ z. P.bends φ (P.tubeArea tube) (P.tubeModulus tube) n m ≡ W.bends (W.columnAt s tube z) n m)
+      (λ l. rw (le-leb t 2500 l) (same _ _ (omega tests)))
+      (λ c l. rw (lt-leb (10 * c) 2500 (omega arith), above-tens c) (same _ _ (omega tests)))
 
 pub baseBears-same : (n : ℕ) → P.baseBears n ≡ W.baseBears n
 unfolding fractions _≼_ P.baseBears W.baseBears
@@ -76,9 +87,17 @@ module _ (j : Job) where
   unfolding fractions P.given P.tieForce W.face W.tieForce
   tieForce-same = rw wk-same (up-is _ _ _ (omega arith))
 
-  pub Z-same : P.Z j ≡ W.columnSlenderness j
-  unfolding fractions P.given P.Z W.columnSlenderness
-  Z-same = up-by 10000 _ _ _ (omega arith)
+  columnTenths-same : up (whole 10 ⊗ P.exactZ j) ≡ W.columnTenths j
+  unfolding fractions P.given P.exactZ W.columnTenths
+  columnTenths-same = up-by 100000 _ _ _ (omega arith)
+
+  exactZ-pos : 0 < P.exactZ j .under
+  unfolding fractions P.given P.exactZ
+  exactZ-pos = cases (eqb (j .tube) 1) (λ e. rw e (lit< tt)) (λ e. rw e (lit< tt))
+
+  pub column-same : P.column j ≡ W.columnSlenderness j
+  unfolding P.Z P.column W.columnSlenderness
+  column-same = tenths-same (P.exactZ j) exactZ-pos columnTenths-same
 
   check1-same : P.check1 j ≡ W.check1 j
   unfolding fractions _≼_ P.given P.check1 W.check1
@@ -111,12 +130,12 @@ module _ (j : Job) where
   check6-same = same _ _ (omega tests)
 
   pub check7-same : (s : List ℕ) (H : ℕ) → P.check7 j s H ≡ W.bears (W.columnOf s j) (W.force (W.load j H))
-  unfolding P.A P.φ P.check7 W.columnOf
-  check7-same s H = rw (N-same H, Z-same) (bears-same s (j .tube) (W.columnSlenderness j) (W.force (W.load j H)))
+  unfolding P.A P.Z P.φ P.check7 W.columnSlenderness W.columnOf
+  check7-same s H = rw (N-same H) (bears-same (P.exactZ j) exactZ-pos columnTenths-same s (j .tube) (W.force (W.load j H)))
 
   pub check8-same : (s : List ℕ) (H : ℕ) → P.check8 j s H ≡ W.bends (W.columnOf s j) (W.forceWind (W.load j H)) (W.mw j)
-  unfolding P.A P.W P.φ P.check8 W.columnOf
-  check8-same s H = rw (Nw-same H, Mw-same, Z-same) (bends-same s (j .tube) (W.columnSlenderness j) (W.forceWind (W.load j H)) (W.mw j))
+  unfolding P.A P.W P.Z P.φ P.check8 W.columnSlenderness W.columnOf
+  check8-same s H = rw (Nw-same H, Mw-same) (bends-same (P.exactZ j) exactZ-pos columnTenths-same s (j .tube) (W.forceWind (W.load j H)) (W.mw j))
 
   pub notDue-same : P.notDue j ≡ W.notDue j
   unfolding fractions _≼_ P.given P.notDue W.face W.notDue
@@ -179,4 +198,4 @@ module _ (j : Job) where
 
   pub judgement-same : (s : List ℕ) → P.judgement j s ≡ W.judgement s j
   unfolding P.judgement W.judgement
-  judgement-same s = rw (verdicts-same s, figures-same, stability-same s, heights-same (W.count s j), wk-same, Mw-same, Z-same)
+  judgement-same s = rw (verdicts-same s, figures-same, stability-same s, heights-same (W.count s j), wk-same, Mw-same, column-same)

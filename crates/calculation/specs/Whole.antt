@@ -121,11 +121,19 @@ forceWind l = ceil (120 * l .dead + 119 * l .live) 2000000
 
 -- ---- the column
 
--- up to a whole number
-unfoldable pub columnSlenderness : Job → ℕ
-columnSlenderness j = ceil (1155 * lengthFactor (j .family) (j .lb) (j .ties) * j .step) (1000 * radius (j .tube))
+-- a slenderness in tenths, above 250.0 up to a whole number
+unfoldable pub roundedTenths : ℕ → ℕ
+roundedTenths t = cond (leb t 2500) t (10 * ceil t 10)
 
--- of a tube under a sheet, at a slenderness
+-- up to a tenth, in tenths
+unfoldable pub columnTenths : Job → ℕ
+columnTenths j = ceil (1155 * lengthFactor (j .family) (j .lb) (j .ties) * j .step) (100 * radius (j .tube))
+
+-- Z, in tenths
+unfoldable pub columnSlenderness : Job → ℕ
+columnSlenderness j = roundedTenths (columnTenths j)
+
+-- of a tube under a sheet, at a slenderness in tenths
 unfoldable pub columnAt : List ℕ → ℕ → ℕ → Column
 columnAt s tube z = record { over = over s z; under = under z; area = area tube; modulus = modulus tube }
 

@@ -3,7 +3,7 @@ ghost use mathlib.Core.Path.{_≡_};
 ghost use Prim.Native.Nat.{_≤_};
 ghost use Rattle.basis.specs.Figure.{Is};
 ghost use Rattle.job.specs.Bounds.{Bounds};
-ghost use Rattle.calculation.specs.Whole.{shape, windPressure, windMoment, figures, columnSlenderness, slenderness, transomMoment, transomLoad, transomDeflection, ledgerMoment, ledgerLoad, ledgerDeflection, slip, face, tieForce};
+ghost use Rattle.calculation.specs.Whole.{shape, windPressure, windMoment, figures, roundedTenths, columnSlenderness, slenderness, transomMoment, transomLoad, transomDeflection, ledgerMoment, ledgerLoad, ledgerDeflection, slip, face, tieForce};
 use crate::constants::board_of;
 use crate::constants::factor_of;
 use crate::constants::radius_of;
@@ -46,17 +46,26 @@ pub fn wind_moment(w: u64, la: u32, step: u32) -> u64
     ceil_div(119 * w * la * (step * step), 1000000)
 }
 
-// Z.
+// A slenderness in tenths, above 250.0 up to a whole number.
+// requires: the slenderness of an accepted job is shown to be no greater.
+pub fn rounded_tenths(t: u64) -> u64
+    requires { ⌜ t ≤ 2930 ⌝ }
+    ensures { λ r. ⌜ Is r (roundedTenths t) 2930 ⌝ }
+{
+    if t <= 2500 { t } else { 10 * ceil_div(t, 10) }
+}
+
+// Z, in tenths.
 // requires: judge shows the bounds by examining the job.
 pub fn column_slenderness(j: Job) -> u64
     requires { ⌜ Bounds j ⌝ }
-    ensures { λ r. ⌜ Is r (columnSlenderness j) 293 ⌝ }
+    ensures { λ r. ⌜ Is r (columnSlenderness j) 2930 ⌝ }
 {
     let step = j.step as u64;
-    ceil_div(
+    rounded_tenths(ceil_div(
         1155 * factor_of(j.family, j.lb, j.ties) * step,
-        1000 * radius_of(j.tube),
-    )
+        100 * radius_of(j.tube),
+    ))
 }
 
 // The slenderness of check 6, up.
