@@ -9,7 +9,7 @@ use lib.ListN.{length, take, drop, set}
 use Rattle.basis.specs.Rows.{Exactly}
 use Rattle.job.specs.Job.{jobOf}
 use Rattle.job.specs.Rows.{Inside}
-use Rattle.section5.specs.Section5.{checks, verdicts, figures, poles, stability, heights, wk, Mw, Z}
+use Rattle.section5.specs.Section5.{checks, verdicts, figures, poles, stability, heights, wk, Mw, column}
 use Rattle.section5.specs.Poles.{NoHigher, UpTo}
 use Rattle.section5.specs.Harsher.{Harsher}
 use Rattle.groups.specs.Encode.{encodeAll}
@@ -39,7 +39,7 @@ pub record Demand1 : Type 0 where
   pub read-answered : (file before : List ℕ) → Bytes file → (ns : List ℕ) → Reads file ns → (readCode file ≡ 25) × (readBuffer file before ≡ ns)
   pub read-exactly : (file : List ℕ) → Bytes file → Exactly (ReadRow file) ((ns : List ℕ) × Reads file ns)
 
--- 2. Every verdict and figure is the one that section 5 of JGJ 130-2001 gives as document 01 restates it. A job written to a file reads back
+-- 2. Every verdict and figure is the one that section 5 of JGJ 130-2001 gives as document 01, with what 02 changes, restates it. A job written to a file reads back
 -- as that job, and a file that was read writes back as those bytes.
 pub record Demand2 : Type 0 where
   -- the report that an answered call leaves, in the paper's own definitions
@@ -47,7 +47,7 @@ pub record Demand2 : Type 0 where
       (let j = jobOf ns in
       let s = entriesOf sheet in
       callBuffer sheet file out
-      ≡ (checkLines 1 (verdicts j s) (figures j) ++ (heightLine (heights j (stability j s)) ++ (windLine (wk j) (Mw j) ++ columnLine (Z j)))) ++ drop (callCode sheet file out) out)
+      ≡ (checkLines 1 (verdicts j s) (figures j) ++ (heightLine (heights j (stability j s)) ++ (windLine (wk j) (Mw j) ++ columnLine (column j)))) ++ drop (callCode sheet file out) out)
   -- 25 numbers of which a file was written read back
   pub job-back : (ns out before : List ℕ) → length ns ≡ 25 → writeCode ns out / 4294967296 ≡ 0 →
       (let file = take (writeCode ns out) (writeBuffer ns out) in

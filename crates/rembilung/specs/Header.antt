@@ -15,7 +15,7 @@ abbrev pub fileMost : ℕ
 fileMost = 42
 
 abbrev pub reportMost : ℕ
-reportMost = 167
+reportMost = 168
 
 -- the upper half of what is returned is the refusal's number, and 0 exactly where the call answers; the lower half is the place
 pub record Halves (returned : ℕ) (Row : ℕ → ℕ → Type 0) (Answered : Type 0) : Type 0 where

@@ -35,9 +35,9 @@ returned sheet file room =
 pub rows : List Row
 unfolding sheetT numbersJ returned encodeAll
 rows =
-    -- J's report has 150 bytes
-    row (returned sheetT (encodeAll numbersJ) reportMost) (0 ∷ 150 ∷ [])
-    ∷ row (returned sheetT (encodeAll numbersJ) 149) (8 ∷ 150 ∷ [])
+    -- J's report has 151 bytes
+    row (returned sheetT (encodeAll numbersJ) reportMost) (0 ∷ 151 ∷ [])
+    ∷ row (returned sheetT (encodeAll numbersJ) 150) (8 ∷ 151 ∷ [])
     -- a sheet before a file: no sheet, and one whose entry 250 is 116, with a file of 80 00
     ∷ row (returned [] (128 ∷ 0 ∷ []) 0) (1 ∷ 0 ∷ [])
     ∷ row (returned (set sheetT 250 116) (128 ∷ 0 ∷ []) 0) (2 ∷ 250 ∷ [])

@@ -64,6 +64,6 @@ enough-is =
           let h = height-most (j .family) (W.count s j) (heightCount-most _ _ _ _ _) in
           let w = width 4 17472 tt (Most.wk-most r) in
           let m = width 7 17000000 tt (Most.mw-most r) in
-          let z = width 2 293 tt (Most.columnSlenderness-most r) in
+          let z = width 3 2930 tt (Most.columnSlenderness-most r) in
           rw (judgement-same j s) (simp (length-append, pair-line-length, column-line-length) (omega arith));
     }

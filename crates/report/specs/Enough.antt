@@ -8,9 +8,9 @@ use Rattle.job.specs.Rows.{Stands}
 use Rattle.section5.specs.Section5.{judgement}
 use Rattle.report.specs.Report.{report}
 
--- 119 for the lines of the checks, 17 for the heights, 20 for the wind and 11 for the column
+-- 119 for the lines of the checks, 17 for the heights, 20 for the wind and 12 for the column
 abbrev pub enough : ℕ
-enough = 167
+enough = 168
 
 pub record Enough : Type 0 where
   pub no-longer : (sheet : List ℕ) (j : Job) → Stands j → length (report (judgement j sheet)) ≤ enough

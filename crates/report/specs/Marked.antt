@@ -1,4 +1,4 @@
--- The marked case of document 01 on the report: what the definitions compute for job J under sheet T, and what the paper says, byte for byte.
+-- The marked case of documents 01 and 02 on the report: what the definitions compute for job J under sheet T, and what the papers say, byte for byte.
 -- Assumes nothing.
 use mathlib.Core.Path.{refl}
 use mathlib.Core.List.{List, [], _∷_}
@@ -36,12 +36,12 @@ rows =
     ∷ 49 ∷ 48 ∷ 32 ∷ 49 ∷ 32 ∷ 50 ∷ 48 ∷ 48 ∷ 57 ∷ 51 ∷ 10
     -- 11 2 20093
     ∷ 49 ∷ 49 ∷ 32 ∷ 50 ∷ 32 ∷ 50 ∷ 48 ∷ 48 ∷ 57 ∷ 51 ∷ 10
-    -- height 3210 3110
-    ∷ 104 ∷ 101 ∷ 105 ∷ 103 ∷ 104 ∷ 116 ∷ 32 ∷ 51 ∷ 50 ∷ 49 ∷ 48 ∷ 32 ∷ 51 ∷ 49 ∷ 49 ∷ 48 ∷ 10
+    -- height 3277 3173
+    ∷ 104 ∷ 101 ∷ 105 ∷ 103 ∷ 104 ∷ 116 ∷ 32 ∷ 51 ∷ 50 ∷ 55 ∷ 55 ∷ 32 ∷ 51 ∷ 49 ∷ 55 ∷ 51 ∷ 10
     -- wind 42 24291
     ∷ 119 ∷ 105 ∷ 110 ∷ 100 ∷ 32 ∷ 52 ∷ 50 ∷ 32 ∷ 50 ∷ 52 ∷ 50 ∷ 57 ∷ 49 ∷ 10
-    -- column 198
-    ∷ 99 ∷ 111 ∷ 108 ∷ 117 ∷ 109 ∷ 110 ∷ 32 ∷ 49 ∷ 57 ∷ 56 ∷ 10
+    -- column 1974
+    ∷ 99 ∷ 111 ∷ 108 ∷ 117 ∷ 109 ∷ 110 ∷ 32 ∷ 49 ∷ 57 ∷ 55 ∷ 52 ∷ 10
     ∷ []
     )
     ∷ []

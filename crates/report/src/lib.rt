@@ -23,7 +23,7 @@ pub mod refusal;
 mod text;
 
 // A buffer of that length has room for the report of every accepted job (specs/Enough.antt).
-pub const ENOUGH: usize = 167;
+pub const ENOUGH: usize = 168;
 
 // How many bytes the report of a judgement has.
 fn report_length(g: Judgement) -> usize
