@@ -1,7 +1,7 @@
 -- `stability_factor` meets its contract. Assumes nothing.
 use mathlib.Core.Path.{_≡_}
 use mathlib.Core.List.{List}
-use Prim.Native.Nat.{ℕ, _*_, _≤_}
+use Prim.Native.Nat.{ℕ, _*_, _%_, _≤_}
 use native.Mathlib.Nat.{le-trans, mul-le-mul}
 use native.Mathlib.Omega.{arith}
 use lib.ListN.{getD}
@@ -11,7 +11,7 @@ use borrow.Author.Tests.{le-leb, lt-leb}
 use Rattle.basis.proofs.Fits.{fits-below}
 use Rattle.basis.proofs.Tests.{cond-below}
 use Rattle.sheet.specs.Rows.{Stands}
-use Rattle.sheet.specs.StabilityFactor.{above, line, over, under, Reading}
+use Rattle.sheet.specs.StabilityFactor.{below, above, between, line, over, under, Reading}
 use Rattle.sheet.proofs.Falls.{entry-most, stability-within}
 use Rattle.sheet.proofs.stability_factor.Statement.{statement}
 use Rattle.sheet.proofs.stability_factor.Tie as tie
@@ -23,6 +23,11 @@ under-most z l = let m : above z ≤ 293 = omega arith in cond-below (leb z 2500
 -- an entry that was read is at most 1,000
 read-most : (s : List ℕ) (k : ℕ) {e : ℕ} → Stands s → k ≤ 250 → e ≡ getD s k 0 → e ≤ 1000
 read-most s k h l e = rw e (entry-most s h k l)
+
+-- between the two entries that were read
+over-line : (s : List ℕ) (z : ℕ) {a b x : ℕ} → z ≤ 2500 → a ≡ getD s (below z) 0 → b ≡ getD s (above z) 0 → x ≡ between a b (z % 10) → x ≡ over s z
+unfolding line over
+over-line s z l e f g = rw (le-leb z 2500 l, g, e, f)
 
 -- its parts are those of the sheet, and with them it is above 0 and at most 1
 reading : (s : List ℕ) (z : ℕ) {o u : ℕ} → Stands s → z ≤ 2930 → o ≡ over s z → u ≡ under z → Reading (record { over = o; under = u }) s z
@@ -47,7 +52,8 @@ stability-factor-spec =
     (λ c.
     let p = c .before .before .before .before .before .before .before .pre in
     let t = c .before .before .before .before .before .if1 .taken in
-    reading _ _ (p .0) (p .1) (unfold over line in simp (le-leb _ _ t) (cc)) (unfold under in simp (le-leb _ _ t)))  -- returns
+    let o = over-line _ _ t (c .before .before .before .wide .ensures) (c .before .wide2 .ensures) (c .between-of .ensures) in
+    reading _ _ (p .0) (p .1) o (unfold under in simp (le-leb _ _ t)))  -- returns
     (λ c. let m : above (c .before .before .args .z) ≤ 293 = omega arith in fits-below (293 * 293) tt (mul-le-mul m m))  -- mul-t6
     (λ c.
     let p = c .before .before .pre in
