@@ -1,24 +1,30 @@
 //! Jobs at which a check's compared quantities are equal, and exhaustive searches for those that can't be.
 
+use super::columns::{self, Column, job_of, place, spacings};
 use super::jobs::accepted;
-use super::sheets::{through, valid};
+use super::sheets::{neighbours, through, valid};
 use super::tuned::{Aim, bisect, near_capacity};
 use crate::paper::checks::check;
 use crate::paper::constants::{STRENGTH, tube};
 use crate::paper::figures;
-use crate::paper::fraction::Fraction;
+use crate::paper::fraction::{Fraction, d};
 use crate::paper::job::Job;
 use crate::paper::sheet::Sheet;
 use crate::random::Random;
+use std::collections::BTreeMap;
 
 /// What the searches found once, before any call is made.
 pub struct Atlas {
     /// For each aim of checks 1 to 5, jobs whose unrounded figure is exactly the limit.
     pub exact: Vec<Vec<Job>>,
-    /// Family, tube, spacing, tie interval and step of every column with Z = 250 or 251.
-    pub slender: Vec<(i128, [u32; 5])>,
-    /// For each family and tube, jobs and sheets at the very limit of check 8 in wind.
-    pub windy: Vec<(Job, Sheet)>,
+    /// Family, tube and feature: the columns whose slenderness shows it.
+    pub featured: BTreeMap<[u32; 3], Vec<Column>>,
+    /// Family, tube and side of 250: the columns nearest to it.
+    pub joint: BTreeMap<[u32; 3], Vec<Column>>,
+    /// Family, tube and relation: pairs of columns, the second no milder.
+    pub pairs: BTreeMap<[u32; 3], Vec<(Column, Column)>>,
+    /// For each family and tube, jobs and sheets at the very limit of check 8 in wind; true where φ is no thousandth.
+    pub windy: Vec<(bool, Job, Sheet)>,
     /// Step and bay, t = 3, with the greatest face of at most 30 m² and the least beyond it.
     pub faces: [(u32, u32); 2],
 }
@@ -26,36 +32,14 @@ pub struct Atlas {
 /// Searches everything; check 6 and a face of exactly 30 m² are shown to have no equality.
 pub fn search() -> Atlas {
     let exact = (0..44).map(|turn| exact_jobs(Aim::number(turn))).collect();
-    let columns = columns();
-    let slender = columns.iter().copied().map(|column| (figures::column_slenderness(&job_of(column)), column));
-    let slender = slender.filter(|(z, _)| matches!(z, 250 | 251)).collect();
-    Atlas { exact, slender, windy: windy(), faces: faces() }
-}
-
-fn job_of([family, tube, spacing, interval, step]: [u32; 5]) -> Job {
-    Job([1; 25]).with(1, family).with(2, tube).with(3, spacing).with(6, interval).with(5, step)
-}
-
-fn spacings(family: u32) -> Vec<u32> {
-    if family == 1 { vec![105, 130, 155] } else { (60..=150).collect() }
-}
-
-fn columns() -> Vec<[u32; 5]> {
-    let mut columns = Vec::new();
-    for (family, tube) in [(1, 1), (1, 2), (2, 1), (2, 2)] {
-        for spacing in spacings(family) {
-            for interval in [2, 3] {
-                columns.extend((60..=200).map(|step| [family, tube, spacing, interval, step]));
-            }
-        }
-    }
-    columns
+    let (featured, joint, pairs) = (columns::featured(), columns::beside_joint(), columns::pairs());
+    Atlas { exact, featured, joint, pairs, windy: windy(), faces: faces() }
 }
 
 /// Whether any column stands exactly at the limit of check 6: 210 × 15.8 and the like are no whole factor × step.
 pub fn check_6_has_equality() -> bool {
     let sheet = Sheet([1000; 251]);
-    columns().iter().any(|&column| {
+    columns::all().iter().any(|&column| {
         let check = check(6, &job_of(column), &sheet, 0);
         check.left == check.right
     })
@@ -168,29 +152,43 @@ fn by_tie_capacity(random: &mut Random, aim: Aim) -> Option<(Job, Sheet)> {
     (8_000..=100_000).contains(&force).then(|| (job.with(22, force), Sheet(valid(random))))
 }
 
-fn windy() -> Vec<(Job, Sheet)> {
+fn windy() -> Vec<(bool, Job, Sheet)> {
     let mut random = Random::new(0, 1);
-    (0..16).filter_map(|number| at_limit_in_wind(&mut random, 1 + number % 2, 1 + number / 2 % 2)).collect()
+    let mut found = Vec::new();
+    for number in 0..16 {
+        let aim = Aim { check: 8, family: 1 + number % 2, tube: 1 + number / 2 % 2 };
+        let fine = number / 4 % 2 == 1;
+        found.extend(at_limit_in_wind(&mut random, aim, fine).map(|(job, sheet)| (fine, job, sheet)));
+    }
+    found
 }
 
-/// A job at the very limit of check 8 in wind, Mw above 0: then Mw × φA / W has to be a whole number of newtons.
-fn at_limit_in_wind(random: &mut Random, family: u32, tube_number: u32) -> Option<(Job, Sheet)> {
-    let aim = Aim { check: 8, family, tube: tube_number };
+/// A job at the very limit of check 8 in wind, Mw above 0; `fine` asks for a φ that is no whole thousandth.
+fn at_limit_in_wind(random: &mut Random, aim: Aim, fine: bool) -> Option<(Job, Sheet)> {
     (0..3_000).find_map(|_| {
-        let calm = accepted(random, family, tube_number, 3);
-        let z = usize::try_from(figures::column_slenderness(&calm)).ok().filter(|&z| z <= 250)?;
-        let entry = 200 * random.within(1, 4);
-        let reduced = Fraction::of(i128::from(entry), 1000) * tube(&calm).area;
-        let force = Fraction::whole(figures::pole_force_in_wind(&calm, calm.field(7)));
-        if force > reduced * STRENGTH {
-            return None;
-        }
-        let windy = (1..=200).map(|_| calm.with(15, random.within(1, 2_000)));
-        let job = windy.into_iter().find(|job| {
-            let moment = Fraction::whole(figures::wind_moment(job));
-            moment > Fraction::whole(0) && (reduced * (STRENGTH - moment / tube(job).modulus)).is_whole()
+        let calm = accepted(random, aim.family, aim.tube, 3);
+        let (k, tenths) = place(&calm)?;
+        let (job, factor) = (0..200).find_map(|_| {
+            let job = calm.with(15, random.within(1, 2_000));
+            let factor = whole_in_wind(&job).filter(|factor| factor.is_multiple_of(10) != fine)?;
+            Some((job, factor))
         })?;
-        let edge = bisect(&job, Sheet(through(random, z, entry)), 13, |job, sheet| aim.fails(job, sheet))?;
+        let entries = neighbours(random, tenths, factor)?;
+        let edge = bisect(&job, Sheet(through(random, k, entries)), 13, |job, sheet| aim.fails(job, sheet))?;
         aim.stands_at_limit(&edge.passing, &edge.sheet).then_some((edge.passing, edge.sheet))
     })
+}
+
+/// The least φ in ten-thousandths that bears the job without nets, φA(f − Mw/W) being a whole number of newtons.
+fn whole_in_wind(job: &Job) -> Option<u32> {
+    let moment = Fraction::whole(figures::wind_moment(job));
+    let left = STRENGTH - moment / tube(job).modulus;
+    if moment == d!(0) || left <= d!(0) {
+        return None;
+    }
+    let each = tube(job).area * left / d!(10_000);
+    let step = Fraction::whole(each.least_multiplier());
+    let force = Fraction::whole(figures::pole_force_in_wind(&job.with(13, 0), job.field(7)));
+    let factor = Fraction::whole((force / each / step).up()) * step;
+    (factor <= d!(10_000)).then(|| factor.up() as u32)
 }

@@ -1,9 +1,9 @@
-//! The turns on accepted jobs: uniform, tuned, special heights and columns, and demand 3's pairs and heights.
+//! The turns on accepted jobs: uniform, tuned, special heights, and demand 3's pairs and heights.
 
 use super::exact::at_limit as job_at_limit;
 use super::jobs::{accepted, any_accepted, bounds, heavier};
 use super::sheets::{Entries, valid};
-use super::tuned::{Aim, around, at_stability, bisect, edge, near_capacity};
+use super::tuned::{Aim, around, at_stability, bisect, edge, is_between, near_capacity};
 use super::{Lists, Planned, Relation, Turn, files, verdict};
 use crate::call::Call;
 use crate::coverage::{Cell, Expect, cell};
@@ -103,7 +103,7 @@ pub fn deflection_cell(check: usize, family: u32, governs: u32, side: u32) -> Ce
     cell("deflection limit", [check as u32, family, governs, side])
 }
 
-fn plain(random: &mut Random) -> Planned {
+pub fn plain(random: &mut Random) -> Planned {
     let (job, sheet) = (any_accepted(random), valid(random));
     judged(random, &job, &sheet, Vec::new())
 }
@@ -111,20 +111,30 @@ fn plain(random: &mut Random) -> Planned {
 /// A job whose compared quantities are equal.
 pub fn at_limit(random: &mut Random, _: &Lists, turn: u64) -> Turn {
     let aim = Aim::number(turn);
+    let passes = Expect::Verdict(aim.check, 1);
     let planned = match job_at_limit(random, aim) {
         Some((job, sheet)) => {
-            judged(random, &job, &sheet.0, vec![(limit_cell(aim, EQUAL), Expect::Verdict(aim.check, 1))])
+            let mut cells = vec![(limit_cell(aim, EQUAL), passes)];
+            if is_between(&job, &sheet) {
+                cells.push((between_cell(aim), passes));
+            }
+            judged(random, &job, &sheet.0, cells)
         }
         None => plain(random),
     };
     Turn { calls: vec![planned], relation: Relation::Nothing }
 }
 
+/// The compared quantities are equal and φ lies between two unequal entries.
+pub fn between_cell(aim: Aim) -> Cell {
+    cell("equality between entries", [aim.check as u32, aim.family, aim.tube, 0])
+}
+
 /// A job from the searches, or one at the limit of check 8 in wind.
 pub fn exact(random: &mut Random, lists: &Lists, turn: u64) -> Turn {
     if turn.is_multiple_of(10) {
-        let (job, sheet) = &lists.atlas.windy[turn as usize / 10 % lists.atlas.windy.len()];
-        let cells = vec![(cell("equality in wind", [job.field(1), job.field(2), 0, 0]), Expect::Verdict(8, 1))];
+        let (fine, job, sheet) = &lists.atlas.windy[turn as usize / 10 % lists.atlas.windy.len()];
+        let cells = vec![(windy_cell(job.field(1), job.field(2), *fine), Expect::Verdict(8, 1))];
         return Turn { calls: vec![judged(random, job, &sheet.0, cells)], relation: Relation::Nothing };
     }
     let number = (turn - turn / 10) % 44;
@@ -135,6 +145,10 @@ pub fn exact(random: &mut Random, lists: &Lists, turn: u64) -> Turn {
     let (job, sheet) = (jobs[random.below(jobs.len())], valid(random));
     let planned = judged(random, &job, &sheet, vec![(exact_cell(aim), Expect::Verdict(aim.check, 1))]);
     Turn { calls: vec![planned], relation: Relation::Nothing }
+}
+
+pub fn windy_cell(family: u32, tube: u32, fine: bool) -> Cell {
+    cell("equality in wind", [family, tube, u32::from(fine), 0])
 }
 
 pub fn exact_cell(aim: Aim) -> Cell {
@@ -168,17 +182,6 @@ pub fn due(random: &mut Random, lists: &Lists, turn: u64) -> Turn {
     let sheet = Sheet(valid(random));
     let verdict = check(8, &job, &sheet, job.field(7)).verdict();
     let cells = vec![(cell("due boundary", [wind, enclosure, wide as u32, 0]), Expect::Verdict(8, verdict))];
-    Turn { calls: vec![judged(random, &job, &sheet.0, cells)], relation: Relation::Nothing }
-}
-
-/// Columns at Z = 250 and 251; single rows, of many spacings, take every other turn.
-pub fn slender(random: &mut Random, lists: &Lists, turn: u64) -> Turn {
-    let tied: Vec<_> = lists.atlas.slender.iter().filter(|(_, column)| u64::from(column[0]) == 1 + turn % 2).collect();
-    let columns = if tied.is_empty() { lists.atlas.slender.iter().collect() } else { tied };
-    let (z, [family, tube, spacing, interval, step]) = *columns[random.below(columns.len())];
-    let job = accepted(random, family, tube, 1).with(3, spacing).with(6, interval).with(5, step).with(13, 0);
-    let sheet = near_capacity(random, &job, 1_000, 1_100).unwrap_or_else(|| Sheet(valid(random)));
-    let cells = vec![(cell("slenderness", [family, tube, z as u32, 0]), Expect::Column(z as u32))];
     Turn { calls: vec![judged(random, &job, &sheet.0, cells)], relation: Relation::Nothing }
 }
 

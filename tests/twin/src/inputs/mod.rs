@@ -1,5 +1,6 @@
 //! The calls of the run: a fixed list of kinds for each block of calls, each kind taken in turn.
 
+pub mod columns;
 pub mod damage;
 pub mod ends;
 pub mod exact;
@@ -9,6 +10,7 @@ pub mod jobs;
 pub mod kinds;
 pub mod required;
 pub mod sheets;
+pub mod slender;
 pub mod tuned;
 
 use crate::call::Call;
@@ -57,7 +59,7 @@ struct Kind {
     calls: usize,
 }
 
-const KINDS: [Kind; 20] = [
+const KINDS: [Kind; 23] = [
     Kind { make: kinds::uniform, turns: 140, calls: 1 },
     Kind { make: damage::wild, turns: 24, calls: 1 },
     Kind { make: damage::end, turns: 90, calls: 1 },
@@ -68,7 +70,10 @@ const KINDS: [Kind; 20] = [
     Kind { make: kinds::exact, turns: 10, calls: 1 },
     Kind { make: kinds::stability, turns: 24, calls: 1 },
     Kind { make: kinds::due, turns: 12, calls: 1 },
-    Kind { make: kinds::slender, turns: 12, calls: 1 },
+    Kind { make: slender::column, turns: 36, calls: 1 },
+    Kind { make: slender::cliff, turns: 16, calls: 1 },
+    Kind { make: slender::joint, turns: 14, calls: 2 },
+    Kind { make: slender::pair, turns: 12, calls: 2 },
     Kind { make: damage::damaged_sheet, turns: 70, calls: 1 },
     Kind { make: damage::sheet_length, turns: 20, calls: 1 },
     Kind { make: damage::broken_file, turns: 60, calls: 1 },
@@ -97,6 +102,6 @@ pub fn block(lists: &Lists, seed: u64, number: u64) -> impl Iterator<Item = Turn
 
 /// The whole call on a job under a sheet, with a buffer that is long enough.
 pub fn verdict(random: &mut Random, job: &Job, sheet: &[u16; 251]) -> Call {
-    let report = random.within(167, 179) as usize;
+    let report = random.within(168, 180) as usize;
     Call::Verdict { sheet: sheets::to_bytes(sheet), file: files::whole(job), report, fill: random.next() }
 }

@@ -2,6 +2,7 @@
 
 use super::damage::{ENTRY_FAULTS, end_cell, entry_cell, entry_fault, order_cell};
 use super::kinds::*;
+use super::slender::*;
 use super::tuned::Aim;
 use super::{Lists, faults};
 use crate::coverage::{Cell, cell};
@@ -24,6 +25,7 @@ pub fn cells(lists: &Lists) -> Vec<Cell> {
     cells.extend((0..51).map(|length| cell("length of a buffer", [1, length, 0, 0])));
     cells.extend((0..4).map(|number| cell("buffer that just fits", [number / 2, number % 2, 0, 0])));
     cells.extend((0..4).map(|number| cell("own height", [1 + number / 2, number % 2, 0, 0])));
+    cells.extend(columns(lists));
     cells.extend(accepted_jobs());
     cells.extend(orders());
     cells.extend(refusals());
@@ -40,21 +42,34 @@ fn limits(lists: &Lists) -> Vec<Cell> {
         if !matches!(aim.check, 2 | 4 | 6) {
             cells.push(limit_cell(aim, EQUAL));
         }
+        if matches!(aim.check, 7 | 8) {
+            cells.push(between_cell(aim));
+        }
         if !lists.atlas.exact[turn as usize].is_empty() {
             cells.push(exact_cell(aim));
         }
     }
-    cells.extend(
-        lists.atlas.slender.iter().map(|&(z, column)| cell("slenderness", [column[0], column[1], z as u32, 0])),
-    );
     cells.extend((0..12).map(|number| stability_cell(1 + number / 6, HEIGHTS[number as usize % 6])));
     cells.extend((0..12).map(|number| cell("due boundary", [350 + number % 2, 1 + number / 2 % 3, number / 6, 0])));
-    cells.extend((0..4).map(|number| cell("equality in wind", [1 + number % 2, 1 + number / 2, 0, 0])));
+    cells.extend((0..8).map(|number| windy_cell(1 + number % 2, 1 + number / 2 % 2, number / 4 == 1)));
     for (check, family, governs) in DEFLECTIONS {
         cells.extend([LAST_PASS, FIRST_FAIL].map(|side| deflection_cell(check, family, governs, side)));
     }
     cells.sort_unstable();
     cells.dedup();
+    cells
+}
+
+// What no column shows, and relations in which no two columns stand, are not in the searches: see marked.rs.
+fn columns(lists: &Lists) -> Vec<Cell> {
+    let mut cells: Vec<Cell> = lists.atlas.featured.keys().map(|&key| feature_cell(key)).collect();
+    cells.extend((0..MISREADINGS).map(|turn| misreading_cell(misreading(turn))));
+    for check in [7, 8] {
+        for side in [LAST_PASS, FIRST_FAIL] {
+            cells.extend(lists.atlas.joint.keys().map(|&key| joint_cell(key, check, side)));
+        }
+        cells.extend(lists.atlas.pairs.keys().map(|&key| pair_cell(key, check)));
+    }
     cells
 }
 

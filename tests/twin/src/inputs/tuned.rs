@@ -1,9 +1,10 @@
 //! Tuned jobs: a check at its limit, found by bisecting one field with the twin.
 
+use super::columns::{Column, place, with_column};
 use super::jobs::{accepted, bounds};
-use super::sheets::{through, valid};
+use super::sheets::{neighbours, through, valid};
 use crate::paper::checks::check;
-use crate::paper::figures::{column_slenderness, pole_force};
+use crate::paper::figures::pole_force;
 use crate::paper::heights::{pole_checks_pass, stability};
 use crate::paper::job::Job;
 use crate::paper::sheet::Sheet;
@@ -69,6 +70,19 @@ pub fn edge(random: &mut Random, aim: Aim) -> Option<Edge> {
     })
 }
 
+/// An edge of check 7 or 8 on a column; none where sixty jobs have none.
+pub fn edge_on(random: &mut Random, aim: Aim, column: Column, sheet: SheetFor) -> Option<Edge> {
+    (0..60).find_map(|_| {
+        let enclosure = random.within(1, 3);
+        let job = with_column(&accepted(random, aim.family, aim.tube, enclosure), column);
+        let (sheet, field) = (sheet(random, &job, aim.check), random.pick(&[13, 7, 14, 12]));
+        bisect(&job, sheet, field, |job, sheet| aim.fails(job, sheet))
+    })
+}
+
+/// Gives a sheet for a job and a check.
+type SheetFor = fn(&mut Random, &Job, usize) -> Sheet;
+
 /// The edge along one field, where the verdict differs between its ends.
 pub fn bisect(job: &Job, sheet: Sheet, field: usize, fails: impl Fn(&Job, &Sheet) -> bool) -> Option<Edge> {
     let (mut low, mut high) = bounds(job, field);
@@ -99,7 +113,7 @@ pub fn around(edge: &Edge) -> [Job; 4] {
 }
 
 // Checks 7 and 8 need a sheet under which the job stands near what its pole bears.
-fn sheet_for(random: &mut Random, job: &Job, check: usize) -> Sheet {
+pub fn sheet_for(random: &mut Random, job: &Job, check: usize) -> Sheet {
     let share = random.within(900, 1500);
     match check {
         7 | 8 => near_capacity(random, job, job.field(7), share).unwrap_or_else(|| Sheet(valid(random))),
@@ -107,19 +121,25 @@ fn sheet_for(random: &mut Random, job: &Job, check: usize) -> Sheet {
     }
 }
 
-/// Entries by which φAf is a whole number of newtons are multiples of these.
-const WHOLE_CAPACITY: [u32; 2] = [200, 50];
+/// Ten-thousandths of φ by which φAf is a whole number of newtons are multiples of these.
+const WHOLE_CAPACITY: [u32; 2] = [2_000, 500];
+
+/// Ten-thousandths of φ that lie so many tenths past an entry are multiples of these.
+const ON_A_LINE: [u32; 10] = [10, 1, 2, 1, 2, 5, 2, 1, 2, 1];
 
 /// A sheet under which N at the height is about φAf; `share` is φAf in thousandths of N.
 pub fn near_capacity(random: &mut Random, job: &Job, height: u32, share: u32) -> Option<Sheet> {
-    let z = usize::try_from(column_slenderness(job)).ok().filter(|&z| z <= 250)?;
+    let (k, tenths) = place(job)?;
     let plain = [489, 452][job.field(2) as usize - 1] * 205;
-    let mut entry = (pole_force(job, height) * i128::from(share) / plain) as u32;
-    if random.once_in(2) {
-        let step = WHOLE_CAPACITY[job.field(2) as usize - 1];
-        entry = entry.div_ceil(step) * step;
-    }
-    (117..=1000).contains(&entry).then(|| Sheet(through(random, z, entry)))
+    let factor = (pole_force(job, height) * i128::from(share) * 10 / plain) as u32;
+    let step = if random.once_in(2) { WHOLE_CAPACITY[job.field(2) as usize - 1] } else { ON_A_LINE[tenths as usize] };
+    let entries = neighbours(random, tenths, factor.div_ceil(step) * step)?;
+    Some(Sheet(through(random, k, entries)))
+}
+
+/// Whether φ lies between two unequal entries.
+pub fn is_between(job: &Job, sheet: &Sheet) -> bool {
+    place(job).is_some_and(|(k, tenths)| tenths != 0 && sheet.0[k] != sheet.0[k + 1])
 }
 
 /// A job whose stability height is the given one, tuned by the nets S.

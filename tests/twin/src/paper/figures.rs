@@ -61,9 +61,24 @@ pub fn slenderness(job: &Job) -> Fraction {
     length_factor(job) * (job.h() * d!(1000)) / tube(job).radius
 }
 
-/// Z = 1.155 × factor × h / i, up to a whole number.
-pub fn column_slenderness(job: &Job) -> i128 {
-    (d!(1.155) * slenderness(job)).up()
+/// 1.155 × factor × h / i, not yet rounded.
+pub fn unrounded_column_slenderness(job: &Job) -> Fraction {
+    d!(1.155) * slenderness(job)
+}
+
+/// Z = 1.155 × factor × h / i: where it is at most 250 up to a tenth, above 250 up to a whole number.
+pub fn column_slenderness(job: &Job) -> Fraction {
+    let z = unrounded_column_slenderness(job);
+    if z <= d!(250) { up_to_a_tenth(z) } else { Fraction::whole(z.up()) }
+}
+
+fn up_to_a_tenth(z: Fraction) -> Fraction {
+    Fraction::of((z * d!(10)).up(), 10)
+}
+
+/// Z in tenths, a whole number of them on both sides of 250.
+pub fn column_tenths(job: &Job) -> i128 {
+    (column_slenderness(job) * d!(10)).up()
 }
 
 /// (1.2g + 1.4q)(la/2) lb²/8 in N·mm, not yet rounded.

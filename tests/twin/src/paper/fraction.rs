@@ -58,6 +58,11 @@ impl Fraction {
         self.upper.rem_euclid(self.lower) == 0
     }
 
+    /// The least whole number above 0 that makes the fraction whole when multiplied with it.
+    pub fn least_multiplier(self) -> i128 {
+        self.lower / common_divisor(self.upper.unsigned_abs(), self.lower.unsigned_abs()) as i128
+    }
+
     pub fn least(self, other: Fraction) -> Fraction {
         if self <= other { self } else { other }
     }

@@ -19,7 +19,7 @@ pub fn report(job: &Job, sheet: &Sheet) -> String {
         None => line(&mut text, format_args!("height none")),
     }
     line(&mut text, format_args!("wind {} {}", figures::wind(job).up(), figures::wind_moment(job)));
-    line(&mut text, format_args!("column {}", figures::column_slenderness(job)));
+    line(&mut text, format_args!("column {}", figures::column_tenths(job)));
     text
 }
 

@@ -28,11 +28,19 @@ fn is_damaged(entries: &[u16; 251], k: usize) -> bool {
 }
 
 impl Sheet {
-    /// φ at Z: the sheet's entry divided by 1000 for Z up to 250, and 7320 / Z² above.
-    pub fn stability_factor(&self, z: i128) -> Fraction {
-        if z <= 250 {
-            return Fraction::of(i128::from(self.0[z as usize]), 1000);
+    /// φ at Z: up to 250 on the straight line between neighbouring entries, and 7320 / Z² above.
+    pub fn stability_factor(&self, z: Fraction) -> Fraction {
+        if z > d!(250) {
+            return d!(7320) / (z * z);
         }
-        d!(7320) / (Fraction::whole(z) * Fraction::whole(z))
+        // A whole Z is its own neighbour on both sides, so that nothing after entry 250 is read.
+        let (before, after) = (z.down(), z.up());
+        let past = z - Fraction::whole(before);
+        (d!(1) - past) * self.entry(before) + past * self.entry(after)
+    }
+
+    /// The stability factor at slenderness k.
+    fn entry(&self, k: i128) -> Fraction {
+        Fraction::of(i128::from(self.0[k as usize]), 1000)
     }
 }
