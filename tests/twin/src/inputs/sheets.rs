@@ -99,7 +99,7 @@ fn with_last(mut entries: Entries, last: u16) -> Entries {
 }
 
 /// A sheet whose first damaged entry is k; damage behind k is added at times.
-/// Faults: 0 zero, 1 above the one before (not in entry 0), 2 above 1,000, 3 last below 117.
+/// Faults: 0 zero, 1 above the one before (not in entry 0), 2 above 1,000, 3 last at 116, 4 last below 116.
 pub fn damaged(random: &mut Random, k: usize, fault: usize) -> Entries {
     let low = random.within(LEAST, 998);
     let mut entries = if random.once_in(2) { [low as u16; 251] } else { falling(random, LEAST, 998) };
@@ -107,7 +107,8 @@ pub fn damaged(random: &mut Random, k: usize, fault: usize) -> Entries {
         0 => 0,
         1 => entries[k - 1] + 1,
         2 => random.pick(&[1001, 1002, 65_535, 4_096]),
-        _ => random.pick(&[116, 116, 1, 115]),
+        3 => 116,
+        _ => random.pick(&[1, 115]),
     };
     if random.once_in(3) && k < 250 {
         entries[random.within(k as u32 + 1, 250) as usize] = random.pick(&[0, 1001, 65_535]);
