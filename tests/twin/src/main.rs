@@ -1,5 +1,6 @@
 //! The twin of the library: document 01 written out on its own, and the run that compares the two call by call.
 
+mod answers;
 mod call;
 mod compare;
 mod coverage;
@@ -28,6 +29,7 @@ fn main() -> ExitCode {
     let done = match options::read(&words) {
         Ok(Task::Run { plan, table }) => Ok(differential(&plan, table)),
         Ok(Task::Paper) => Ok(paper_cases()),
+        Ok(Task::Answers) => answers::answer_lines(std::io::stdin().lock(), std::io::stdout().lock()).map(|()| true),
         Ok(Task::Case(call)) => Ok(one_call(&call)),
         Ok(Task::Pair(calls)) => related(&calls, true),
         Ok(Task::Heights(calls)) => related(&calls, false),

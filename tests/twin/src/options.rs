@@ -5,15 +5,18 @@ use crate::run::Plan;
 
 pub const USAGE: &str = "usage: twin [CALLS] [--seed N] [--threads N] [--stop N] [--table]
        twin --paper
+       twin --answers
        twin --case CALL | --pair CALL CALL | --heights CALL ..
        twin --record FILE [CALLS] [--seed N]
 A CALL is the words that a differing call printed: verdict sheet=HEX file=HEX report=LENGTH fill=N,
-write numbers=N,N,.. file=LENGTH fill=N, or read file=HEX fill=N.";
+write numbers=N,N,.. file=LENGTH fill=N, or read file=HEX fill=N.
+--answers reads lines \"SHEET FILE\", each the bytes in hexadecimal or '-' for none, and gives the twin's answers.";
 
 /// What is asked for.
 pub enum Task {
     Run { plan: Plan, table: bool },
     Paper,
+    Answers,
     Case(Call),
     Pair(Vec<Call>),
     Heights(Vec<Call>),
@@ -24,7 +27,8 @@ pub fn read(words: &[String]) -> Result<Task, String> {
     let words: Vec<&str> = words.iter().flat_map(|word| word.split_whitespace()).collect();
     match words.split_first() {
         Some((&"--paper", [])) => Ok(Task::Paper),
-        Some((&"--paper", _)) => Err(format!("--paper stands alone\n{USAGE}")),
+        Some((&"--answers", [])) => Ok(Task::Answers),
+        Some((&alone @ ("--paper" | "--answers"), _)) => Err(format!("{alone} stands alone\n{USAGE}")),
         Some((&"--case", rest)) => parse(rest).map(Task::Case),
         Some((&"--pair", rest)) => calls(rest).map(Task::Pair),
         Some((&"--heights", rest)) => calls(rest).map(Task::Heights),
