@@ -43,7 +43,7 @@ pub fn place(job: &Job) -> Option<(usize, u32)> {
     (tenths <= 2_500).then_some((tenths as usize / 10, tenths % 10))
 }
 
-/// What a column can show; 0 to 9 are the last digit of its tenths, up to 250.
+/// How many things a column can show: those below, and as 0 to 9 the last digit of its tenths, up to 250.
 pub const FEATURES: u32 = 16;
 /// Up to 250, a whole number before it is rounded.
 pub const WHOLE: u32 = 10;
@@ -105,23 +105,22 @@ pub fn beside_joint() -> BTreeMap<[u32; 3], Vec<Column>> {
     found.into_iter().map(|(key, (_, nearest))| (key, nearest)).collect()
 }
 
-/// How two columns that demand 3 orders stand to the sheet.
-/// Equally slender, between two entries.
+/// Of two columns that demand 3 orders: equally slender, between two entries.
 pub const ALIKE: u32 = 0;
 /// At an entry and at the next.
 pub const ENDS: u32 = 1;
 /// Between two entries each, in intervals that share one.
 pub const NEIGHBOURS: u32 = 2;
-/// Up to 250 and above it.
+/// Up to 250 and above it by no more than 1.
 pub const ACROSS: u32 = 3;
 /// Unequally slender within one interval, not both at its ends.
 pub const INSIDE: u32 = 4;
 
 fn relation(first: u32, second: u32) -> Option<u32> {
     let (k, next) = (first / 10, second / 10);
-    let at_entries = (first % 10 == 0, second % 10 == 0);
+    let at_entries = (first.is_multiple_of(10), second.is_multiple_of(10));
     match (first <= 2_500, second <= 2_500) {
-        (true, false) => Some(ACROSS),
+        (true, false) => (second <= 2_510).then_some(ACROSS),
         (true, true) if first == second => (!at_entries.0).then_some(ALIKE),
         (true, true) if second == first + 10 && at_entries.0 => Some(ENDS),
         (true, true) if second <= 10 * k + 10 => Some(INSIDE),

@@ -1,4 +1,4 @@
-//! Document 01 written out in its own order, in exact fractions: the side against which the library is compared.
+//! Document 01 with request 1/14, in its own order and in exact fractions: what the library is compared with.
 
 pub mod calls;
 pub mod checks;
