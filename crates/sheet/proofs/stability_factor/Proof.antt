@@ -1,7 +1,7 @@
 -- `stability_factor` meets its contract. Assumes nothing.
 use mathlib.Core.Path.{_≡_}
 use mathlib.Core.List.{List}
-use Prim.Native.Nat.{ℕ, _*_, _%_, _≤_}
+use Prim.Native.Nat.{ℕ, _*_, _%_, _≤_, _<_}
 use native.Mathlib.Nat.{le-trans, mul-le-mul}
 use native.Mathlib.Omega.{arith}
 use lib.ListN.{getD}
@@ -28,6 +28,10 @@ read-most s k h l e = rw e (entry-most s h k l)
 over-line : (s : List ℕ) (z : ℕ) {a b x : ℕ} → z ≤ 2500 → a ≡ getD s (below z) 0 → b ≡ getD s (above z) 0 → x ≡ between a b (z % 10) → x ≡ over s z
 unfolding line over
 over-line s z l e f g = rw (le-leb z 2500 l, g, e, f)
+
+over-beyond : (s : List ℕ) (z : ℕ) → 2500 < z → 7320 ≡ over s z
+unfolding over
+over-beyond s z l = rw (lt-leb z 2500 l)
 
 -- its parts are those of the sheet, and with them it is above 0 and at most 1
 reading : (s : List ℕ) (z : ℕ) {o u : ℕ} → Stands s → z ≤ 2930 → o ≡ over s z → u ≡ under z → Reading (record { over = o; under = u }) s z
@@ -58,4 +62,4 @@ stability-factor-spec =
     (λ c.
     let p = c .before .before .pre in
     let t = c .if1 .left in
-    reading _ _ (p .0) (p .1) (unfold over in simp (lt-leb _ _ t)) (unfold under in simp (lt-leb _ _ t))))  -- returns-2
+    reading _ _ (p .0) (p .1) (over-beyond _ _ t) (unfold under in simp (lt-leb _ _ t))))  -- returns-2
