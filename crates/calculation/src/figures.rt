@@ -47,7 +47,7 @@ pub fn wind_moment(w: u64, la: u32, step: u32) -> u64
 }
 
 // A slenderness in tenths, above 250.0 up to a whole number.
-// requires: the slenderness of an accepted job is shown to be no greater.
+// requires: column_slenderness shows it of an accepted job.
 pub fn rounded_tenths(t: u64) -> u64
     requires { ⌜ t ≤ 2930 ⌝ }
     ensures { λ r. ⌜ Is r (roundedTenths t) 2930 ⌝ }
