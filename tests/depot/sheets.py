@@ -1,19 +1,9 @@
 """Column sheets as text and job files, and what is due when they are packed or shown."""
-import pathlib
-
+import given
 import tables
+from given import T
 
-VECTORS = pathlib.Path(__file__).resolve().parents[1] / "vectors"
-T = [max(1000 - 4 * k, 150) for k in range(251)]
 RULE = "an entry is 1 to 1000 and no greater than the one before it, and entry 250 is at least 117"
-
-
-def packed(entries):
-    return b"".join(entry.to_bytes(2, "little") for entry in entries)
-
-
-def entries_in(data):
-    return [int.from_bytes(data[k:k + 2], "little") for k in range(0, len(data), 2)]
 
 
 def a_line_each(entries):
@@ -92,11 +82,6 @@ def shown(sheet):
     return "".join(" ".join(str(sheet[k]) for k in range(a, b + 1)) + f" # {a} to {b}\n" for a, b in rows)
 
 
-def table_c():
-    """Sheet C as the vectors transcribe it: a row begins with the slenderness of its first entry."""
-    return [int(entry) for _, (row,) in vectors("sheet-c.txt") for entry in row.split()[1:]]
-
-
 # What show prints of job J, whole.
 SHOWN_J = """\
    1  family: 1  [1 (double row) or 2 (single row)]
@@ -127,12 +112,8 @@ SHOWN_J = """\
 """
 
 
-def groups(number):
-    return bytes([number]) if number < 128 else bytes([number % 128 + 128]) + groups(number // 128)
-
-
 def job_file(cells):
-    return b"".join(groups(int(cell)) for cell in cells.split(","))
+    return given.job_file(map(int, cells.split(",")))
 
 
 JOB = job_file(tables.J)
@@ -153,5 +134,5 @@ JOBS_REFUSED = [
 
 def vectors(name):
     """The lines of a file of vectors, with their numbers."""
-    text = (VECTORS / name).read_text(encoding="ascii")
+    text = (given.HERE / name).read_text(encoding="ascii")
     return [(at, line.split(";")) for at, line in enumerate(text.splitlines(), 1) if not line.startswith("#")]

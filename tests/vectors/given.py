@@ -1,4 +1,4 @@
-"""What several tests read of this folder: sheets T and C, job files, and the cases that requests of document 02 came with.
+"""What the tests share: sheets T and C, the bytes of sheets and job files, and the cases that requests of document 02 came with.
 
 A line `sheet;NAME;ENTRIES` of request-NN.txt is a column sheet for the cases of that file. Every other line that is no comment
 is a case: the word of its call, and the parts after it.
@@ -8,7 +8,10 @@ import pathlib
 import re
 
 HERE = pathlib.Path(__file__).resolve().parent
+ENTRIES = 251
 ENTRY_MOST = 65535
+# Sheet T of document 01.
+T = [max(1000 - 4 * k, 150) for k in range(ENTRIES)]
 
 # Where a case stands, the word of its call, the parts after it, and the sheets of its file, bytes by name.
 Case = collections.namedtuple("Case", "file line word parts sheets")
@@ -33,18 +36,32 @@ def packed(entries):
     return b"".join(entry.to_bytes(2, "little") for entry in entries)
 
 
-def sheet_t():
-    return packed(max(1000 - 4 * k, 150) for k in range(251))
+def entries_in(data):
+    return [int.from_bytes(data[k:k + 2], "little") for k in range(0, len(data), 2)]
 
 
-def sheet_c():
-    text = (HERE / "sheet-c.txt").read_text(encoding="ascii").splitlines()
-    return packed(int(word) for line in text if not line.startswith("#") for word in line.split(" ")[1:])
+def table_row(at, first, text):
+    """The entries of a row of sheet C, ten of them after the slenderness of the first."""
+    found = re.fullmatch(r"([0-9]{1,3})((?: [0-9]{1,4}){1,10})", text)
+    entries = [int(word) for word in found[2].split()] if found else []
+    if not found or int(found[1]) != first or len(entries) != min(10, ENTRIES - first):
+        raise Fault(f"tests/vectors/sheet-c.txt:{at}: not the next row of the table")
+    return entries
+
+
+def table_c():
+    """The entries of sheet C."""
+    entries = []
+    for at, text in enumerate((HERE / "sheet-c.txt").read_text(encoding="ascii").splitlines(), 1):
+        entries += [] if text.startswith("#") else table_row(at, len(entries), text)
+    if len(entries) != ENTRIES:
+        raise Fault(f"tests/vectors/sheet-c.txt: {ENTRIES} entries expected, {len(entries)} found")
+    return entries
 
 
 def own_sheets():
     """The sheets that every file of vectors may name."""
-    return {"T": sheet_t(), "C": sheet_c()}
+    return {"T": packed(T), "C": packed(table_c())}
 
 
 def run_of(word):

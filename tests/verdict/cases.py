@@ -3,6 +3,10 @@
 What is printed was worked out by hand from the papers, not taken from the program.
 """
 
+import pathlib, sys
+sys.path.insert(0, str(pathlib.Path(__file__).resolve().parents[1] / "vectors"))
+from given import T, groups, job_file, packed
+
 # job J, its fields by number from 1
 J = [1, 1, 105, 150, 180, 2, 3000, 3, 4, 2, 3000, 5000, 0, 300, 300, 1000, 1, 200, 1, 240, 1, 8000, 4, 200, 2000]
 
@@ -23,18 +27,11 @@ wind 42 24291
 column 1974
 """
 
-def groups(n):
-    return bytes([n]) if n < 128 else bytes([n % 128 + 128]) + groups(n // 128)
-
 def job(**changed):
     fields = {f"field{k}": n for k, n in enumerate(J, 1)} | changed
-    return b"".join(groups(n) for n in fields.values())
+    return job_file(fields.values())
 
-def sheet_bytes(entries):
-    return b"".join(n.to_bytes(2, "little") for n in entries)
-
-T = [max(1000 - 4 * k, 150) for k in range(251)]
-SHEET = sheet_bytes(T)
+SHEET = packed(T)
 FILE = job()  # 38 bytes
 LONGEST = groups(4294967295) * 25  # five bytes each
 
@@ -51,7 +48,7 @@ MORE = {
     "column.dat longer than any buffer": (SHEET + bytes(4498), FILE, "refused 1 5000\n"),
     "column.dat of megabytes": (bytes(3000001), FILE, "refused 1 3000001\n"),
     # 2: entry 250 may be 117 and not 116; it comes before 6
-    "last entry 116": (sheet_bytes(T[:250] + [116]), b"", "refused 2 250\n"),
+    "last entry 116": (packed(T[:250] + [116]), b"", "refused 2 250\n"),
     # 3: the strength of the ground is from 10 on
     "strength 9": (SHEET, job(field24=9), "refused 3 24\n"),
     "25 numbers of five bytes": (SHEET, LONGEST, "refused 3 1\n"),
