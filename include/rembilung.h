@@ -129,10 +129,10 @@ static inline uint32_t rembilung_place(uint64_t result) {
  *     column Z                      slenderness at which the sheet is read, in tenths: 1974 is 197.4
  *
  * VERDICT is 1 passes, 2 fails, 0 not due (check 8 alone, in light wind on an open scaffold). Figures are rounded up to
- * a whole number, and so is the slenderness of line "column": up to 250 to a whole tenth, above to a multiple of ten
- * tenths. STABILITY is the greatest height from 0 to 6,000 cm at which checks 7 and 8 hold, the job's own height
- * set aside. PERMITTED is clause 5.3.7's: less than STABILITY from 2,600 cm on, and at most 5,000 (double row) or 2,400
- * (single row). */
+ * a whole number. Z is rounded up too: to a tenth up to 250, to a whole number above, so that 250.1 is shown as 2510.
+ * STABILITY is the greatest height from 0 to 6,000 cm at which checks 7 and 8 hold, the job's own height set aside.
+ * PERMITTED is clause 5.3.7's: less than STABILITY from 2,600 cm on, and at most 5,000 (double row) or 2,400 (single
+ * row). */
 uint64_t rembilung_verdict(const uint8_t *sheet, size_t sheet_len,
                            const uint8_t *file, size_t file_len,
                            uint8_t *report, size_t report_len);
