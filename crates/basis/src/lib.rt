@@ -2,7 +2,7 @@
 ghost use mathlib.Core.Bool.{_&&_, _||_, cond};
 ghost use mathlib.Core.Path.{_≡_};
 ghost use Prim.Native.Nat.{_+_, _<_, _≤_, min, max};
-ghost use Rattle.basis.specs.Range.{within};
+ghost use Rattle.basis.specs.Range.{within, field};
 ghost use Rattle.basis.specs.Fraction.{ceil};
 ghost use Rattle.basis.specs.Figure.{Is};
 ghost use Rattle.basis.specs.Refusal.{unless, first};
@@ -119,6 +119,20 @@ pub fn within_of(low: u32, high: u32, x: u32) -> bool
     ensures { λ r. ⌜ r ≡ within low high x ⌝ }
 {
     both_of(low <= x, x <= high)
+}
+
+// The rest where a field stands, else its place.
+pub fn field_of(place: u64, stands: bool, rest: u64) -> u64
+    ensures { λ r. ⌜ r ≡ field place stands rest ⌝ }
+{
+    if stands { rest } else { place }
+}
+
+// The same for a field that is to be from low to high.
+pub fn range_of(place: u64, low: u32, high: u32, x: u32, rest: u64) -> u64
+    ensures { λ r. ⌜ r ≡ field place (within low high x) rest ⌝ }
+{
+    field_of(place, within_of(low, high, x), rest)
 }
 
 pub fn least_of(a: u64, b: u64) -> u64

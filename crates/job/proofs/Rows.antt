@@ -5,7 +5,6 @@ use mathlib.Core.Bool.{Bool, _||_, true}
 use mathlib.Core.List.{_∷_}
 use mathlib.Core.Logic.{_⊎_, inl, inr, ⊎-elim}
 use Prim.Native.Nat.{ℕ, zero, suc, _≤_, _<_}
-use native.Mathlib.Nat.{zero-add}
 use native.Mathlib.Omega.{arith}
 use lib.ListN.{set}
 use lib.Dec.{eqb, leb, ltb, lit<}
@@ -13,29 +12,16 @@ use borrow.Author.Tests.{ltb-true, ltb-false, leb-true, leb-false, eqb-true, eqb
 use Rattle.basis.specs.Refusal.{number, nothing, fieldRange, contradiction, unless}
 use Rattle.basis.specs.Rows.{First, Some, Follows}
 use Rattle.basis.proofs.Tests.{cases, within-le}
+use Rattle.basis.proofs.Lowest.{lowest-none, lowest-is, lowest-every, set-passes}
 use Rattle.basis.proofs.Refusals.{unless-passes, unless-fails}
 use Rattle.basis.proofs.Rows.{unrefused}
 use Rattle.job.specs.declared.Job.{Job}
-use Rattle.job.specs.Ranges.{heightStands, geometry, loads, wind, ground, ranges, field, lowest, outside}
+use Rattle.job.specs.Ranges.{heightStands, geometry, loads, wind, ground, ranges, outside}
 use Rattle.job.specs.Job.{jobOf, numbers}
 use Rattle.job.specs.Examine.{wallRefusal, agreementRefusal, examination}
 use Rattle.job.specs.Rows.{Inside, Outside, Agrees, Row, Stands, Told}
-use Rattle.job.proofs.Lowest.{lowest-all, lowest-first, lowest-every, set-passes}
 
 module _ (j : Job) where
-  none-outside : ((p : ℕ) → Inside j p) → outside j ≡ 0
-  unfolding Inside outside
-  none-outside h = lowest-all 1 0 (ranges j) (λ i. h (suc i))
-
-  outside-is : (p : ℕ) → First (Outside j) p → outside j ≡ p
-  unfolding Inside Outside outside lowest field
-  outside-is p f = lowest-first 0 0 p (true ∷ ranges j) f ∙ zero-add p
-
-  outside-pos : (p : ℕ) → First (Outside j) p → 0 < p
-  unfolding Inside Outside
-  outside-pos zero f = absurd (f .here tt)
-  outside-pos (suc p) f = omega arith
-
   -- a family other than 1 is 2
   single : Inside j 1 → (j .family ≡ 1 → ⊥) → j .family ≡ 2
   unfolding Inside ranges geometry
@@ -43,8 +29,8 @@ module _ (j : Job) where
 
   -- what is left to refuse of a job whose fields are in their ranges, and of one whose fields agree
   in-range : ((p : ℕ) → Inside j p) → examination j ≡ agreementRefusal j
-  unfolding examination
-  in-range i = unless-passes (eqb (outside j) 0) (fieldRange (outside j)) (agreementRefusal j) (eq-eqb (outside j) 0 (none-outside i))
+  unfolding examination Inside outside
+  in-range i = unless-passes (eqb (outside j) 0) (fieldRange (outside j)) (agreementRefusal j) (eq-eqb (outside j) 0 (lowest-none (ranges j) i))
 
   layers-agree : j .working ≤ j .boarded → agreementRefusal j ≡ unless (leb (j .q) (j .total)) (contradiction 12) (wallRefusal j)
   layers-agree l = unless-passes (leb (j .working) (j .boarded)) _ _ (le-leb (j .working) (j .boarded) l)
@@ -63,10 +49,10 @@ module _ (j : Job) where
       either f = cases (eqb (j .family) 1) (λ t. rw t refl) (λ t. rw t (f (s .wall (single (s .agrees .inside 1) (eqb-false (j .family) 1 t)))))
 
   row-is : (n p : ℕ) → Row j n p → (0 < n) × (examination j ≡ record { number = n; place = p })
-  unfolding examination
+  unfolding examination Inside Outside outside
   row-is n p (Row.outside q f) =
-      let e = outside-is q f in
-      (lit< tt, unless-fails (eqb (outside j) 0) (fieldRange (outside j)) (agreementRefusal j) (ne-eqb (outside j) 0 (λ z. omega (arith, outside-pos q f))) ∙ ap fieldRange e)
+      let e = lowest-is (ranges j) q f in
+      (lit< tt, unless-fails (eqb (outside j) 0) (fieldRange (outside j)) (agreementRefusal j) (ne-eqb (outside j) 0 (λ z. omega (arith, e .0, e .1))) ∙ ap fieldRange (e .1))
   row-is n p (Row.layers i l) = (lit< tt, in-range i ∙ unless-fails (leb (j .working) (j .boarded)) _ _ (lt-leb (j .working) (j .boarded) l))
   row-is n p (Row.live i l m) = (lit< tt, in-range i ∙ layers-agree l ∙ unless-fails (leb (j .q) (j .total)) _ _ (lt-leb (j .q) (j .total) m))
   row-is n p (Row.thin a f l) =

@@ -1,10 +1,10 @@
 -- Document 01, "The job": each field with its range, in its order.
 -- Assumes nothing.
-use Prim.Native.Nat.{ℕ, suc}
-use mathlib.Core.Bool.{Bool, true, false, _||_, cond}
+use Prim.Native.Nat.{ℕ}
+use mathlib.Core.Bool.{Bool, _||_, cond}
 use mathlib.Core.List.{List, [], _∷_, _++_}
 use lib.Dec.{eqb}
-use Rattle.basis.specs.Range.{within}
+use Rattle.basis.specs.Range.{within, lowest}
 use Rattle.job.specs.declared.Job.{Job}
 
 -- 3: 105, 130 or 155 (double); 60 to 150 (single)
@@ -68,16 +68,6 @@ ground j =
 -- whether each field stands, in their order
 unfoldable pub ranges : Job → List Bool
 ranges j = geometry j ++ (loads j ++ (wind j ++ ground j))
-
--- the rest where the field stands, else its place
-unfoldable pub field : ℕ → Bool → ℕ → ℕ
-field place true rest = rest
-field place false rest = place
-
--- the place of the first test that fails, the places counted from the first number on; else the rest
-unfoldable pub lowest : ℕ → List Bool → ℕ → ℕ
-lowest place [] rest = rest
-lowest place (test ∷ tests) rest = field place test (lowest (suc place) tests rest)
 
 -- the lowest field outside its range; 0 where there is none
 unfoldable pub outside : Job → ℕ

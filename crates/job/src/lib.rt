@@ -1,7 +1,7 @@
 // A scaffold job: its 25 numbers by name, and what about them is refused (refusals 3, 4 and 5).
 ghost use mathlib.Core.Path.{_≡_};
-ghost use Rattle.basis.specs.Range.{within};
-ghost use Rattle.job.specs.Ranges.{lbStands, heightStands, shieldStands, geometry, loads, wind, ground, field, lowest, outside};
+ghost use Rattle.basis.specs.Range.{lowest};
+ghost use Rattle.job.specs.Ranges.{lbStands, heightStands, shieldStands, geometry, loads, wind, ground, outside};
 ghost use Rattle.job.specs.Job.{jobOf, numbers};
 ghost use Rattle.job.specs.Examine.{examination};
 use basis::CONTRADICTION;
@@ -10,6 +10,8 @@ use basis::NOTHING;
 use basis::Refusal;
 use basis::UNFIT_WALL;
 use basis::either_of;
+use basis::field_of;
+use basis::range_of;
 use basis::refuse_unless;
 use basis::within_of;
 
@@ -131,20 +133,6 @@ pub fn to_numbers(j: Job) -> [u32; 25]
         j.strength,
         j.pad,
     ]
-}
-
-// The rest where a field stands, else its place.
-fn field_of(place: u64, stands: bool, rest: u64) -> u64
-    ensures { λ r. ⌜ r ≡ field place stands rest ⌝ }
-{
-    if stands { rest } else { place }
-}
-
-// The same for a field that is to be from low to high.
-fn range_of(place: u64, low: u32, high: u32, x: u32, rest: u64) -> u64
-    ensures { λ r. ⌜ r ≡ field place (within low high x) rest ⌝ }
-{
-    field_of(place, within_of(low, high, x), rest)
 }
 
 // Field 3: the spacing of a double row is one of three.

@@ -4,12 +4,13 @@ use mathlib.Core.Path.{refl}
 use mathlib.Core.List.{List, [], _∷_}
 use lib.ListN.{replicate}
 use Rattle.basis.specs.Marked.{Row, row, Hold}
+use Rattle.basis.specs.Range.{field, lowest}
 use Rattle.basis.specs.Refusal.{unless, first}
 use Rattle.basis.specs.Writing.{roomRefusal, writtenOr, writtenValues}
 use Rattle.job.specs.declared.Job.{Job}
 use Rattle.job.specs.Job.{jobOf, numbers}
 use Rattle.job.specs.JobJ.{numbersJ}
-use Rattle.job.specs.Ranges.{lbStands, heightStands, shieldStands, geometry, loads, wind, ground, ranges, field, lowest, outside}
+use Rattle.job.specs.Ranges.{lbStands, heightStands, shieldStands, geometry, loads, wind, ground, ranges, outside}
 use Rattle.job.specs.Examine.{examination}
 use Rattle.groups.specs.Encode.{groups, encode, encodeAll}
 use Rattle.groups.specs.Decode.{lastGroup, extend, laterGroups, limit, decode}

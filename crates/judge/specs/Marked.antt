@@ -5,11 +5,12 @@ use mathlib.Core.Path.{refl}
 use mathlib.Core.List.{List, [], _∷_}
 use lib.ListN.{set}
 use Rattle.basis.specs.Search.{firstFail}
+use Rattle.basis.specs.Range.{field, lowest}
 use Rattle.basis.specs.Refusal.{number, place, unless, first}
 use Rattle.basis.specs.Marked.{Row, row, Hold}
 use Rattle.job.specs.declared.Job.{Job}
 use Rattle.job.specs.Job.{jobOf}
-use Rattle.job.specs.Ranges.{lbStands, heightStands, shieldStands, geometry, loads, wind, ground, ranges, field, lowest, outside}
+use Rattle.job.specs.Ranges.{lbStands, heightStands, shieldStands, geometry, loads, wind, ground, ranges, outside}
 use Rattle.job.specs.Examine as Job
 use Rattle.sheet.specs.Sheet as Sheet
 use Rattle.job.specs.JobJ.{numbersJ, jobJ}

@@ -1,8 +1,9 @@
 -- `ground_of` meets its contract. Assumes nothing.
 use mathlib.Core.Path.{refl}
 use borrow.Author.Needs.{needs}
-use Rattle.job.specs.Ranges.{ground, lowest}
-use Rattle.job.proofs.Chain.{link}
+use Rattle.basis.specs.Range.{lowest}
+use Rattle.basis.proofs.Lowest.{link}
+use Rattle.job.specs.Ranges.{ground}
 use Rattle.job.proofs.ground_of.Statement.{statement}
 use Rattle.job.proofs.ground_of.Tie as tie
 

@@ -1,7 +1,7 @@
 -- `range_of` meets its contract. Assumes nothing.
 use borrow.Author.Needs.{needs}
-use Rattle.job.proofs.range_of.Statement.{statement}
-use Rattle.job.proofs.range_of.Tie as tie
+use Rattle.basis.proofs.range_of.Statement.{statement}
+use Rattle.basis.proofs.range_of.Tie as tie
 
 pub range-of-spec : {M : Type 1} → statement M
 range-of-spec =

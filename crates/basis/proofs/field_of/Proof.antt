@@ -1,7 +1,7 @@
 -- `field_of` meets its contract. Assumes nothing.
-use Rattle.job.specs.Ranges.{field}
-use Rattle.job.proofs.field_of.Statement.{statement}
-use Rattle.job.proofs.field_of.Tie as tie
+use Rattle.basis.specs.Range.{field}
+use Rattle.basis.proofs.field_of.Statement.{statement}
+use Rattle.basis.proofs.field_of.Tie as tie
 
 pub field-of-spec : {M : Type 1} → statement M
 field-of-spec =

@@ -1,15 +1,16 @@
--- Laws of a row of tests: the lowest place at which one fails, and another test in the place of one.
+-- Laws of a row of tests: the lowest place at which one fails, how code finds it test by test, and another test in the place of one.
 -- Assumes nothing.
 use mathlib.Core.Path.{_≡_, _∙_, refl}
 use mathlib.Core.Bool.{Bool, true, false}
 use mathlib.Core.List.{List, [], _∷_}
 use mathlib.Core.Logic.{_⊎_, inl, inr, ⊎-elim}
 use Prim.Native.Nat.{ℕ, zero, suc, _+_, _<_}
+use native.Mathlib.Nat.{zero-add}
 use native.Mathlib.Omega.{arith}
 use lib.Dec.{T}
 use lib.ListN.{getD, set}
 use Rattle.basis.specs.Rows.{First}
-use Rattle.job.specs.Ranges.{field, lowest}
+use Rattle.basis.specs.Range.{field, lowest}
 
 -- the test at place i fails; there is none after the last
 abbrev pub Fails : List Bool → ℕ → Type 0
@@ -29,6 +30,15 @@ lowest-first place rest (suc k) (true ∷ tests) f =
     lowest-first (suc place) rest k tests (record { here = f .here; before = λ i l. f .before (suc i) (omega arith) }) ∙ omega arith
 lowest-first place rest zero (false ∷ tests) f = omega arith
 lowest-first place rest (suc k) (false ∷ tests) f = absurd (f .before 0 (omega arith) (λ t. t))
+
+-- places counted from 1, 0 where no test fails
+pub lowest-none : (tests : List Bool) → ((p : ℕ) → T (getD (true ∷ tests) p true)) → lowest 1 tests 0 ≡ 0
+lowest-none tests h = lowest-all 1 0 tests (λ i. h (suc i))
+
+pub lowest-is : (tests : List Bool) (p : ℕ) → First (Fails (true ∷ tests)) p → (0 < p) × (lowest 1 tests 0 ≡ p)
+unfolding lowest field
+lowest-is tests zero f = absurd (f .here tt)
+lowest-is tests (suc p) f = (omega arith, lowest-first 0 0 (suc p) (true ∷ tests) f ∙ zero-add (suc p))
 
 -- no test fails, or there is a first that does
 pub lowest-every : (tests : List Bool) → ((i : ℕ) → T (getD tests i true)) ⊎ ((k : ℕ) × First (Fails tests) k)
@@ -54,3 +64,7 @@ set-passes (x ∷ tests) zero test t h zero = t
 set-passes (x ∷ tests) zero test t h (suc i) = h (suc i)
 set-passes (x ∷ tests) (suc k) test t h zero = h 0
 set-passes (x ∷ tests) (suc k) test t h (suc i) = set-passes tests k test t (λ m. h (suc m)) i
+
+-- one link of a chain of fields: its test and what the later fields say may be put by their definitions
+pub link : (place : ℕ) {r rest rest′ : ℕ} {b b′ : Bool} → r ≡ field place b rest → b ≡ b′ → rest ≡ rest′ → r ≡ field place b′ rest′
+link place e f g = cc
