@@ -1,22 +1,24 @@
--- From a job to a harsher one each check keeps its failure.
+-- Each check keeps its failure: those of a force with what they rest on, and all from a job to a harsher one.
 -- Assumes nothing.
 use mathlib.Core.Path.{_≡_, ap, sym}
 use mathlib.Core.Bool.{Bool, true, false, cond}
 use mathlib.Core.List.{List}
 use Prim.Native.Nat.{ℕ, _*_, _≤_, _<_}
 use native.Mathlib.Nat.{le-refl, le-of-eq, mul-le-mul, mul-le-mul-left}
-use lib.Dec.{eqb, lit<}
+use lib.Dec.{T, eqb, lit<}
+use Rattle.basis.specs.Fraction.{_≼_}
 use Rattle.basis.proofs.Tests.{Keeps, both-keep, either-keep, le-keep, eq-keep}
 use Rattle.job.specs.declared.Job.{Job}
 use Rattle.job.specs.Bounds.{Bounds}
 use Rattle.sheet.specs.Rows.{Stands}
 use Rattle.sheet.specs.StabilityFactor.{over, under, Weaker}
 use Rattle.sheet.proofs.Falls.{weakens}
+use Rattle.section5.specs.Section5.{soilFactor}
 use Rattle.section5.specs.Harsher.{Harsher}
 use Rattle.calculation.specs.Whole.{area, modulus, radius, stiffness, slenderLimit, wk, mw, deckLoad, load, force, forceWind, columnSlenderness, columnAt, columnOf, check1, check2, check3, check4, check5, check6, bears, bends, notDue, check9, baseBears, groundBears, verdicts, poles}
 use Rattle.calculation.proofs.Verdicts.{fails, fails-due, Worse, none, next}
 use Rattle.calculation.proofs.Limits.{deflects-keep, bears-keep, bends-keep}
-use Rattle.calculation.proofs.Growth.{factor-grows, columnSlenderness-grows, force-grows, forceWind-grows, mw-grows, transomMoment-grows, transomLoad-grows, ledgerMoment-grows, ledgerLoad-grows, slip-grows, face-grows, tieForce-grows, ground-falls}
+use Rattle.calculation.proofs.Growth.{factor-grows, columnSlenderness-grows, force-grows, forceWind-grows, mw-grows, transomMoment-grows, transomLoad-grows, ledgerMoment-grows, ledgerLoad-grows, slip-grows, face-grows, tieForce-grows, capacity-falls}
 
 area-pos : (t : ℕ) → 0 < area t
 area-pos t = go (eqb t 1)
@@ -24,6 +26,29 @@ area-pos t = go (eqb t 1)
     go : (b : Bool) → 0 < cond b 489 452
     go true = lit< tt
     go false = lit< tt
+
+-- 7 and 8 of a greater force (with a greater moment) on a column of the same tube that is no less slender
+module _ (s : List ℕ) (f : Stands s) {tube tube′ z z′ : ℕ} (e : tube ≡ tube′) (l : z ≤ z′) where
+  weaker : Weaker (over s z) (under z) (over s z′) (under z′)
+  weaker = weakens .weaker s f l
+
+  pub bears-kept : {n n′ : ℕ} → n ≤ n′ → Keeps (bears (columnAt s tube z) n) (bears (columnAt s tube′ z′) n′)
+  unfolding columnAt
+  bears-kept p = bears-keep (columnAt s tube z) (columnAt s tube′ z′) weaker (ap area e) p
+
+  pub bends-kept : {n n′ m m′ : ℕ} → n ≤ n′ → m ≤ m′ → Keeps (bends (columnAt s tube z) n m) (bends (columnAt s tube′ z′) n′ m′)
+  unfolding columnAt
+  bends-kept p q = bends-keep (columnAt s tube z) (columnAt s tube′ z′) weaker (ap area e) (area-pos tube′) (ap modulus e) p q
+
+-- 10 and 11
+pub base-kept : {n n′ : ℕ} → n ≤ n′ → Keeps (baseBears n) (baseBears n′)
+unfolding baseBears
+base-kept l = le-keep l (le-refl 40000)
+
+pub ground-kept : (soil soil′ : ℕ) {strength strength′ pad pad′ n n′ : ℕ} → T (soilFactor soil′ ≼ soilFactor soil) → strength′ ≤ strength → pad′ ≤ pad → n ≤ n′
+    → Keeps (groundBears soil strength pad n) (groundBears soil′ strength′ pad′ n′)
+unfolding groundBears
+ground-kept soil soil′ s p q l = le-keep (mul-le-mul-left 100 l) (capacity-falls soil soil′ s p q)
 
 module _ (s : List ℕ) {j k : Job} (h : Harsher j k) (b : Bounds k) (f : Stands s) where
   -- a limit that the tube or the family gives is one limit
@@ -54,16 +79,13 @@ module _ (s : List ℕ) {j k : Job} (h : Harsher j k) (b : Bounds k) (f : Stands
   unfolding check6
   keep6 = le-keep (mul-le-mul (factor-grows h) (h .step)) (mul-le-mul (limit slenderLimit (h .family)) (limit radius (h .tube)))
 
-  weaker : Weaker (over s (columnSlenderness j)) (under (columnSlenderness j)) (over s (columnSlenderness k)) (under (columnSlenderness k))
-  weaker = weakens .weaker s f (columnSlenderness-grows h)
-
   keep7 : {n n′ : ℕ} → n ≤ n′ → Keeps (bears (columnOf s j) n) (bears (columnOf s k) n′)
-  unfolding columnOf columnAt
-  keep7 l = bears-keep (columnOf s j) (columnOf s k) weaker (ap area (h .tube)) l
+  unfolding columnOf
+  keep7 l = bears-kept s f (h .tube) (columnSlenderness-grows h) l
 
   keep8 : {n n′ : ℕ} → n ≤ n′ → Keeps (bends (columnOf s j) n (mw j)) (bends (columnOf s k) n′ (mw k))
-  unfolding columnOf columnAt
-  keep8 l = bends-keep (columnOf s j) (columnOf s k) weaker (ap area (h .tube)) (area-pos (k .tube)) (ap modulus (h .tube)) l (mw-grows h)
+  unfolding columnOf
+  keep8 l = bends-kept s f (h .tube) (columnSlenderness-grows h) l (mw-grows h)
 
   keep-notDue : Keeps (notDue j) (notDue k)
   unfolding notDue
@@ -72,14 +94,6 @@ module _ (s : List ℕ) {j k : Job} (h : Harsher j k) (b : Bounds k) (f : Stands
   keep9 : Keeps (check9 j (wk j)) (check9 k (wk k))
   unfolding check9
   keep9 = le-keep (tieForce-grows h) (h .capacity)
-
-  keep10 : {n n′ : ℕ} → n ≤ n′ → Keeps (baseBears n) (baseBears n′)
-  unfolding baseBears
-  keep10 l = le-keep l (le-refl 40000)
-
-  keep11 : {n n′ : ℕ} → n ≤ n′ → Keeps (groundBears (j .soil) (j .strength) (j .pad) n) (groundBears (k .soil) (k .strength) (k .pad) n′)
-  unfolding groundBears
-  keep11 l = le-keep (mul-le-mul-left 100 l) (ground-falls h)
 
   pub keep-poles : {H H′ : ℕ} → H ≤ H′ → Keeps (poles (columnOf s j) (deckLoad j) (j .weight) (mw j) (notDue j) H) (poles (columnOf s k) (deckLoad k) (k .weight) (mw k) (notDue k) H′)
   unfolding poles load
@@ -101,6 +115,6 @@ module _ (s : List ℕ) {j k : Job} (h : Harsher j k) (b : Bounds k) (f : Stands
       (next (fails (keep7 (force-grows h (h .height))))
       (next (fails-due keep-notDue (keep8 (forceWind-grows h (h .height))))
       (next (fails keep9)
-      (next (fails (keep10 (force-grows h (h .height))))
-      (next (fails (keep11 (force-grows h (h .height))))
+      (next (fails (base-kept (force-grows h (h .height))))
+      (next (fails (ground-kept (j .soil) (k .soil) (h .soil) (h .strength) (h .pad) (force-grows h (h .height))))
       none))))))))))

@@ -26,7 +26,7 @@ use basis::both_of;
 use job::Job;
 use section5::CHECKS;
 
-fn verdict_of(pass: bool) -> u8
+pub fn verdict_of(pass: bool) -> u8
     ensures { λ r. ⌜ r ≡ verdict pass ⌝ }
 {
     if pass { 1 } else { 2 }

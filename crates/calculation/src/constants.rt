@@ -17,7 +17,7 @@ pub(crate) fn modulus_of(tube: u32) -> u64
     choose(tube == 1, 5080, 5130)
 }
 
-pub(crate) fn radius_of(tube: u32) -> u64
+pub fn radius_of(tube: u32) -> u64
     ensures { λ r. ⌜ Is r (radius tube) 170 × (158 ≤ r) ⌝ }
 {
     choose(tube == 1, 158, 170)
