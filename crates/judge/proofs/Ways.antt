@@ -21,7 +21,18 @@ use Rattle.calculation.specs.declared.loads.Load.{Load}
 use Rattle.calculation.specs.declared.columns.Column.{Column}
 use Rattle.calculation.specs.Whole as W
 use Rattle.calculation.proofs.Same.{judgement-same}
-use Rattle.judge.specs.Answer.{refusal, Accepted, blank, answer}
+use Rattle.judge.specs.Answer.{refusal, Accepted, blank, answered, answer}
+
+-- of any refusal and any judgement
+module _ {r r′ : Refusal} (e : r ≡ r′) (g : Judgement) where
+  pub answered-refused : {b : Judgement} → (number r ≡ 0 → ⊥) → b ≡ blank → record { refusal = r; judgement = b } ≡ answered r′ g
+  answered-refused h q = simp (← e, ne-eqb (number r) 0 h, q)
+
+  pub answered-judged : {b : Judgement} → number r ≡ 0 → b ≡ g → record { refusal = r; judgement = b } ≡ answered r′ g
+  answered-judged h q = simp (← e, eq-eqb (number r) 0 h, q)
+
+pub judged : (r : Refusal) (g : Judgement) → number r ≡ 0 → (answered r g) .judgement ≡ g
+judged r g a = simp (eq-eqb (number r) 0 a)
 
 module _ (s : List ℕ) (j : Job) where
   pub sheet-stands : Accepted s j → SheetStands s
@@ -38,23 +49,20 @@ module _ (s : List ℕ) (j : Job) where
 
   pub accepted-judgement : Accepted s j → (answer s j) .judgement ≡ judgement j s
   unfolding Accepted answer
-  accepted-judgement a = simp (eq-eqb (number (refusal s j)) 0 a)
+  accepted-judgement a = judged (refusal s j) (judgement j s) a
 
   module _ {r : Refusal} (e : r ≡ refusal s j) where
     pub refuse : {b : Judgement} → (number r ≡ 0 → ⊥) → b ≡ blank → record { refusal = r; judgement = b } ≡ answer s j
     unfolding answer
-    refuse h g = simp (← e, ne-eqb (number r) 0 h, g)
+    refuse = answered-refused e (judgement j s)
 
     pub accept : {b : Judgement} → number r ≡ 0 → b ≡ judgement j s → record { refusal = r; judgement = b } ≡ answer s j
     unfolding answer
-    accept h g = simp (← e, eq-eqb (number r) 0 h, g)
-
-    accepted : number r ≡ 0 → Accepted s j
-    unfolding Accepted
-    accepted h = sym (ap number e) ∙ h
+    accept = answered-judged e (judgement j s)
 
     pub ready : number r ≡ 0 → SheetStands s × JobStands j
-    ready h = (sheet-stands (accepted h), job-stands (accepted h))
+    unfolding Accepted
+    ready h = let a = sym (ap number e) ∙ h in (sheet-stands a, job-stands a)
 
   -- the parts of a judgement, as the code works them out
   pub assembled : {form w m z n nw count : ℕ} {c : Column} {deck load : Load} {v f : List ℕ} {h : Heights} {exempt : Bool}

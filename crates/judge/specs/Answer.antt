@@ -36,9 +36,9 @@ blank =
       z = 0;
     }
 
+-- a refusal, or the judgement where nothing is refused
+abbrev pub answered : Refusal → Judgement → Judged
+answered refusal g = record { refusal = refusal; judgement = cond (eqb (number refusal) 0) g blank }
+
 unfoldable pub answer : List ℕ → Job → Judged
-answer sheet j =
-    record {
-      refusal = refusal sheet j;
-      judgement = cond (eqb (number (refusal sheet j)) 0) (judgement j sheet) blank;
-    }
+answer sheet j = answered (refusal sheet j) (judgement j sheet)

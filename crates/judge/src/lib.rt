@@ -67,7 +67,7 @@ pub fn judge_accepted(sheet: &[u16], j: Job) -> Judgement
 }
 
 // What stands beside a refusal.
-fn blank_of() -> Judgement
+pub fn blank_of() -> Judgement
     ensures { λ r. ⌜ r ≡ blank ⌝ }
 {
     Judgement {
