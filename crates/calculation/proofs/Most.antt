@@ -39,7 +39,7 @@ unfolding permitted
 permitted-most f H = le-trans (min-le-right _ (heightLimit f)) (cond-below (eqb f 1) (le-refl 5000) (lit≤ tt))
 
 -- a division up by a number that depends on the tube
-tube-below : {n m : ℕ} (tube : ℕ) (f : ℕ → ℕ) (x y b : ℕ) → T (leb (ceil b (f x)) m) → T (leb (ceil b (f y)) m) → n ≤ b → ceil n (f (cond (eqb tube 1) x y)) ≤ m
+pub tube-below : {n m : ℕ} (tube : ℕ) (f : ℕ → ℕ) (x y b : ℕ) → T (leb (ceil b (f x)) m) → T (leb (ceil b (f y)) m) → n ≤ b → ceil n (f (cond (eqb tube 1) x y)) ≤ m
 tube-below {n} {m} tube f x y b p q h = go (eqb tube 1)
   where
     go : (t : Bool) → ceil n (f (cond t x y)) ≤ m

@@ -1,0 +1,5 @@
+pub mod Most
+pub mod Same
+pub mod Keep
+pub mod Ways
+pub mod Order

@@ -1,0 +1,17 @@
+-- Document 02, request 2: a heavier or weaker-founded support, otherwise alike, gets no pass back; about what judging answers.
+-- Assumes nothing.
+use mathlib.Core.Path.{_≡_}
+use mathlib.Core.List.{List}
+use Prim.Native.Nat.{ℕ}
+use lib.ListN.{getD}
+use Rattle.support.specs.declared.Support.{Support}
+use Rattle.section5.specs.Harsher.{HarsherSupport}
+use Rattle.formwork.specs.Answer.{Accepted, answer}
+
+-- verdict i, from 0, of what judging answers
+abbrev pub verdictAt : List ℕ → Support → ℕ → ℕ
+verdictAt sheet s i = getD ((answer sheet s) .judgement .verdicts) i 0
+
+pub record Order : Type 0 where
+  -- every check that fails for the first support fails for the second
+  pub no-pass-gained : (sheet : List ℕ) (s t : Support) → Accepted sheet s → Accepted sheet t → HarsherSupport s t → (i : ℕ) → verdictAt sheet s i ≡ 2 → verdictAt sheet t i ≡ 2
