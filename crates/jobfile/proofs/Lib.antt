@@ -1,5 +1,6 @@
+pub mod BothKinds
+pub mod Sizes
 pub mod Reading
 pub mod Writing
-pub mod Sizes
 pub mod RoundTrip
 pub mod Beginning

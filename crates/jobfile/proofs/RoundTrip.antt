@@ -7,80 +7,84 @@ use native.Mathlib.Nat.{zero-add, le-trans}
 use native.Mathlib.Omega.{arith}
 use lib.ListN.{length, take, drop}
 use lib.Seq.{take-append-seam}
-use Rattle.basis.specs.Refusal.{trailing, first}
+use Rattle.basis.specs.Refusal.{number, trailing, first}
 use Rattle.basis.specs.declared.Written.the-variants.{Length}
 use Rattle.basis.proofs.Refusals.{first-nothing}
 use Rattle.basis.proofs.Writing.{done-leaves, written-length}
-use Rattle.job.specs.declared.Job.{Job}
-use Rattle.job.specs.Job.{numbers}
-use Rattle.job.specs.Examine.{examination}
-use Rattle.job.specs.Rows.{Stands}
-use Rattle.job.proofs.Rows.{stands-unrefused}
-use Rattle.job.proofs.Numbers.{job-numbers, numbers-job, numbers-long}
+use Rattle.groups.specs.Encode.{encodeAll}
 use Rattle.groups.specs.Decode.{Bytes}
+use Rattle.groups.specs.Rows.{Narrow}
 use Rattle.groups.specs.Numbers.{extra, values}
-use Rattle.groups.proofs.Files.{damage-back, values-back, values-long, all-read}
-use Rattle.jobfile.specs.Read.{jobNumbers, readRefusal, jobIn}
-use Rattle.jobfile.specs.Write.{fileOf, writeRefusal, fileWritten, fileLeft}
-use Rattle.jobfile.specs.RoundTrip.{RoundTrip}
-use Rattle.jobfile.specs.declared.ReadJob.the-variants.{Accepted, Refused}
-use Rattle.jobfile.proofs.Reading.{refused-accepted, read-refused, read-done, read-accepted, accepted-stands}
+use Rattle.groups.proofs.Files.{damage-back, values-back, all-read}
+use Rattle.jobfile.specs.Kind.{Kind, count, examination}
+use Rattle.jobfile.specs.Read.{refusalAs, jobAs, readAs, jobIn}
+use Rattle.jobfile.specs.Write.{writeRefusal, fileWritten, fileLeft}
+use Rattle.jobfile.specs.RoundTrip.{Accepted, RoundTrip}
+use Rattle.jobfile.specs.declared.ReadJob.the-variants.{Refused}
+use Rattle.jobfile.proofs.BothKinds.{told, stands-kind}
+use Rattle.jobfile.proofs.Sizes.{file-short, narrow}
+use Rattle.jobfile.proofs.Reading.{refused-job, same-job, read-refused, read-done, read-job, job-stands}
 use Rattle.jobfile.proofs.Writing.{write-fits, write-nothing}
-use Rattle.jobfile.proofs.Sizes.{file-short, job-narrow}
 
-module _ (j : Job) (h : Stands j) (rest : List ℕ) where
-  file-values : values jobNumbers (fileOf j ++ rest) ≡ numbers j
-  unfolding fileOf
-  file-values = rw numbers-long at (values-back (numbers j) rest (job-narrow j h))
+module _ (k : Kind) (ns : List ℕ) (a : Accepted k ns) (rest : List ℕ) where
+  file-narrow : Narrow ns
+  file-narrow = narrow k ns (a .long) (a .stands)
+
+  file-values : values (count k) (encodeAll ns ++ rest) ≡ ns
+  file-values = rw (a .long) at (values-back ns rest file-narrow)
 
   -- of a job's file and bytes after it, only those bytes are refused
-  file-refusal : first (extra (length (fileOf j)) rest) (examination j) ≡ readRefusal (fileOf j ++ rest)
-  unfolding fileOf readRefusal
+  file-refusal : first (extra (length (encodeAll ns)) rest) (examination k ns) ≡ refusalAs k (encodeAll ns ++ rest)
+  unfolding refusalAs
   file-refusal =
-      let d = rw (numbers-long, zero-add) at (damage-back (numbers j) 0 rest (job-narrow j h)) in
-      rw (file-values, job-numbers, d)
+      let d = rw (a .long, zero-add) at (damage-back ns 0 rest file-narrow) in
+      rw (file-values, d)
 
-job-back : (j : Job) → Stands j → jobIn (fileOf j) ≡ Accepted j
+  file-read : jobIn (encodeAll ns ++ rest) ≡ readAs k (encodeAll ns ++ rest)
+  unfolding jobIn
+  file-read = rw (stands-kind k ns rest (a .long) (a .stands) file-narrow)
+
+job-back : (k : Kind) (ns : List ℕ) → Accepted k ns → jobIn (encodeAll ns) ≡ jobAs k ns
 unfolding extra first
-job-back j h = sym (rw (file-values j h [], job-numbers, append-nil) at (read-done (fileOf j ++ []) (examination j) (file-refusal j h []) (stands-unrefused j h)))
+job-back k ns a =
+    rw append-nil at
+    (file-read k ns a [] ∙ sym (rw (file-values k ns a []) at (read-done k (encodeAll ns ++ []) (file-refusal k ns a []) (ap number (told k ns .none (a .stands))))))
 
-extra-refused : (j : Job) (b : ℕ) (bs : List ℕ) → Stands j → jobIn (fileOf j ++ b ∷ bs) ≡ Refused (trailing (length (fileOf j)))
+extra-refused : (k : Kind) (ns : List ℕ) (b : ℕ) (bs : List ℕ) → Accepted k ns → jobIn (encodeAll ns ++ b ∷ bs) ≡ Refused (trailing (length (encodeAll ns)))
 unfolding extra first
-extra-refused j b bs h = sym (read-refused (fileOf j ++ b ∷ bs) (trailing (length (fileOf j))) (file-refusal j h (b ∷ bs)) (λ e. omega arith))
+extra-refused k ns b bs a = file-read k ns a (b ∷ bs) ∙ sym (read-refused k (encodeAll ns ++ b ∷ bs) {r = trailing (length (encodeAll ns))} (file-refusal k ns a (b ∷ bs)) (λ e. omega arith))
 
-file-back : (file : List ℕ) (j : Job) → Bytes file → jobIn file ≡ Accepted j → (fileOf j ≡ file) × Stands j
-unfolding fileOf readRefusal
-file-back file j w e =
-    let a = read-accepted file j e in
-    let n = first-nothing _ _ (a .0) in
-    (rw (← a .1, numbers-job (values jobNumbers file) (values-long jobNumbers file)) (all-read jobNumbers 0 file w (n .0)), accepted-stands file j e)
+file-back : (file : List ℕ) (k : Kind) (ns : List ℕ) → Bytes file → length ns ≡ count k → jobIn file ≡ jobAs k ns → (encodeAll ns ≡ file) × Accepted k ns
+unfolding refusalAs
+file-back file k ns w l e =
+    let a = read-job file k ns l e .1 in
+    (rw (← a .1) (all-read (count k) 0 file w (first-nothing _ _ (a .0) .0)), record { long = l; stands = job-stands file k ns l e })
 
-written-reads : (j : Job) (out : List ℕ) (n : ℕ) → fileWritten j out ≡ Length n → jobIn (take n (fileLeft j out)) ≡ Accepted j
+written-reads : (k : Kind) (ns out : List ℕ) (n : ℕ) → length ns ≡ count k → fileWritten k ns out ≡ Length n → jobIn (take n (fileLeft k ns out)) ≡ jobAs k ns
 unfolding fileWritten fileLeft
-written-reads j out n e =
-    let a = written-length (writeRefusal j out) (length (fileOf j)) n e in
-    rw (← a .1, ← done-leaves (writeRefusal j out) (fileOf j) out (a .0) .1, take-append-seam) (job-back j (write-fits j out (a .0) .0))
+written-reads k ns out n l e =
+    let a = written-length (writeRefusal k ns out) (length (encodeAll ns)) n e in
+    rw (← a .1, ← done-leaves (writeRefusal k ns out) (encodeAll ns) out (a .0) .1, take-append-seam)
+    (job-back k ns (record { long = l; stands = write-fits k ns out (a .0) .0 }))
 
-written-whole : (j : Job) (out : List ℕ) → Stands j → length (fileOf j) ≤ length out
-    → (Length (length (fileOf j)) ≡ fileWritten j out) × (fileOf j ++ drop (length (fileOf j)) out ≡ fileLeft j out)
+written-whole : (k : Kind) (ns out : List ℕ) → Accepted k ns → length (encodeAll ns) ≤ length out
+    → (Length (length (encodeAll ns)) ≡ fileWritten k ns out) × (encodeAll ns ++ drop (length (encodeAll ns)) out ≡ fileLeft k ns out)
 unfolding fileWritten fileLeft
-written-whole j out h l = done-leaves (writeRefusal j out) (fileOf j) out (write-nothing j out h l)
+written-whole k ns out a l = done-leaves (writeRefusal k ns out) (encodeAll ns) out (write-nothing k ns out (a .stands) l)
 
-read-writes : (file : List ℕ) (j : Job) (out : List ℕ) → Bytes file → jobIn file ≡ Accepted j → length file ≤ length out
-    → (fileWritten j out ≡ Length (length file)) × (fileLeft j out ≡ file ++ drop (length file) out)
-read-writes file j out w e l =
-    let b = file-back file j w e in
-    let d = rw (b .0) at (written-whole j out (b .1) (rw (b .0) l)) in
+read-writes : (file : List ℕ) (k : Kind) (ns out : List ℕ) → Bytes file → length ns ≡ count k → jobIn file ≡ jobAs k ns → length file ≤ length out
+    → (fileWritten k ns out ≡ Length (length file)) × (fileLeft k ns out ≡ file ++ drop (length file) out)
+read-writes file k ns out w n e l =
+    let b = file-back file k ns w n e in
+    let d = rw (b .0) at (written-whole k ns out (b .1) (rw (b .0) l)) in
     (sym (d .0), sym (d .1))
 
-one-job : (j k : Job) → Stands j → Stands k → fileOf j ≡ fileOf k → j ≡ k
-one-job j k g h e =
-    let a : Accepted j ≡ Accepted k = sym (job-back j g) ∙ ap jobIn e ∙ job-back k h in
-    cc
+one-job : (k l : Kind) (ns ms : List ℕ) → Accepted k ns → Accepted l ms → encodeAll ns ≡ encodeAll ms → (k ≡ l) × (ns ≡ ms)
+one-job k l ns ms a b e = same-job k l ns ms (a .long) (b .long) (sym (job-back k ns a) ∙ ap jobIn e ∙ job-back l ms b)
 
-no-beginning : (j k : Job) (rest : List ℕ) → Stands j → Stands k → fileOf k ≡ fileOf j ++ rest → rest ≡ []
-no-beginning j k [] g h e = refl
-no-beginning j k (b ∷ bs) g h e = refused-accepted (sym (extra-refused j b bs g) ∙ ap jobIn (sym e) ∙ job-back k h)
+no-beginning : (k l : Kind) (ns ms rest : List ℕ) → Accepted k ns → Accepted l ms → encodeAll ms ≡ encodeAll ns ++ rest → rest ≡ []
+no-beginning k l ns ms [] a b e = refl
+no-beginning k l ns ms (x ∷ xs) a b e = refused-job l ms (sym (extra-refused k ns x xs a) ∙ ap jobIn (sym e) ∙ job-back l ms b)
 
 pub round-trip : RoundTrip
 round-trip =
@@ -92,6 +96,6 @@ round-trip =
       one-job = one-job;
       extra-refused = extra-refused;
       no-beginning = no-beginning;
-      at-most = file-short;
-      room = λ j out h l. sym (written-whole j out h (le-trans (file-short j h) l) .0);
+      at-most = λ k ns a. file-short k ns (a .long) (a .stands);
+      room = λ k ns out a l. sym (written-whole k ns out a (le-trans (file-short k ns (a .long) (a .stands)) l) .0);
     }

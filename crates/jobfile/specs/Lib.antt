@@ -1,3 +1,4 @@
+pub mod Kind
 pub mod Read
 pub mod Write
 pub mod RoundTrip

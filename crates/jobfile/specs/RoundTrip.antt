@@ -1,4 +1,4 @@
--- What is certain of job files, of the definitions by which `read` and `write` are specified: each gives back what the other had.
+-- What is certain of job files of both kinds, of the definitions by which `read`, `write` and `write_support` are specified: each gives back what the other had.
 -- Assumes nothing.
 use Prim.Native.Nat.{ℕ, _≤_}
 use mathlib.Core.Path.{_≡_}
@@ -6,29 +6,34 @@ use mathlib.Core.List.{List, [], _∷_, _++_}
 use lib.ListN.{length, take, drop}
 use Rattle.basis.specs.Refusal.{trailing}
 use Rattle.basis.specs.declared.Written.the-variants.{Length}
-use Rattle.job.specs.declared.Job.{Job}
-use Rattle.job.specs.Rows.{Stands}
+use Rattle.groups.specs.Encode.{encodeAll}
 use Rattle.groups.specs.Decode.{Bytes}
-use Rattle.jobfile.specs.Read.{jobIn}
-use Rattle.jobfile.specs.Write.{fileOf, greatestLength, fileWritten, fileLeft}
-use Rattle.jobfile.specs.declared.ReadJob.the-variants.{Accepted, Refused}
+use Rattle.jobfile.specs.Kind.{Kind, count, Stands}
+use Rattle.jobfile.specs.Read.{jobAs, jobIn}
+use Rattle.jobfile.specs.Write.{greatestLength, fileWritten, fileLeft}
+use Rattle.jobfile.specs.declared.ReadJob.the-variants.{Refused}
+
+-- as many numbers as a job of the kind has, none of them refused
+pub record Accepted (kind : Kind) (ns : List ℕ) : Type 0 where
+  pub long : length ns ≡ count kind
+  pub stands : Stands kind ns
 
 pub record RoundTrip : Type 0 where
   -- the file of an accepted job reads back as that job
-  pub job-back : (j : Job) → Stands j → jobIn (fileOf j) ≡ Accepted j
+  pub job-back : (k : Kind) (ns : List ℕ) → Accepted k ns → jobIn (encodeAll ns) ≡ jobAs k ns
   -- a file that reads as a job is the file of that job, which is accepted
-  pub file-back : (file : List ℕ) (j : Job) → Bytes file → jobIn file ≡ Accepted j → (fileOf j ≡ file) × Stands j
-  -- where `write` answers a length, `read` of that many bytes of the buffer gives the job back
-  pub written-reads : (j : Job) (out : List ℕ) (n : ℕ) → fileWritten j out ≡ Length n → jobIn (take n (fileLeft j out)) ≡ Accepted j
-  -- where `read` gives a job, `write` of it into a buffer with room puts those bytes back
-  pub read-writes : (file : List ℕ) (j : Job) (out : List ℕ) → Bytes file → jobIn file ≡ Accepted j → length file ≤ length out
-      → (fileWritten j out ≡ Length (length file)) × (fileLeft j out ≡ file ++ drop (length file) out)
-  -- different accepted jobs have different files: two of one file are one job
-  pub one-job : (j k : Job) → Stands j → Stands k → fileOf j ≡ fileOf k → j ≡ k
+  pub file-back : (file : List ℕ) (k : Kind) (ns : List ℕ) → Bytes file → length ns ≡ count k → jobIn file ≡ jobAs k ns → (encodeAll ns ≡ file) × Accepted k ns
+  -- where writing answers a length, `read` of that many bytes of the buffer gives the job back
+  pub written-reads : (k : Kind) (ns out : List ℕ) (n : ℕ) → length ns ≡ count k → fileWritten k ns out ≡ Length n → jobIn (take n (fileLeft k ns out)) ≡ jobAs k ns
+  -- where `read` gives a job, writing it into a buffer with room puts those bytes back
+  pub read-writes : (file : List ℕ) (k : Kind) (ns out : List ℕ) → Bytes file → length ns ≡ count k → jobIn file ≡ jobAs k ns → length file ≤ length out
+      → (fileWritten k ns out ≡ Length (length file)) × (fileLeft k ns out ≡ file ++ drop (length file) out)
+  -- different accepted jobs, of one kind or of both, have different files: two of one file are one job
+  pub one-job : (k l : Kind) (ns ms : List ℕ) → Accepted k ns → Accepted l ms → encodeAll ns ≡ encodeAll ms → (k ≡ l) × (ns ≡ ms)
   -- bytes after a job's file are refused at its length
-  pub extra-refused : (j : Job) (b : ℕ) (bs : List ℕ) → Stands j → jobIn (fileOf j ++ b ∷ bs) ≡ Refused (trailing (length (fileOf j)))
-  -- no file is the beginning of another
-  pub no-beginning : (j k : Job) (rest : List ℕ) → Stands j → Stands k → fileOf k ≡ fileOf j ++ rest → rest ≡ []
-  -- no accepted job's file is longer than the greatest length, and a buffer of that length has room for each
-  pub at-most : (j : Job) → Stands j → length (fileOf j) ≤ greatestLength
-  pub room : (j : Job) (out : List ℕ) → Stands j → greatestLength ≤ length out → fileWritten j out ≡ Length (length (fileOf j))
+  pub extra-refused : (k : Kind) (ns : List ℕ) (b : ℕ) (bs : List ℕ) → Accepted k ns → jobIn (encodeAll ns ++ b ∷ bs) ≡ Refused (trailing (length (encodeAll ns)))
+  -- no file is the beginning of another, of its own kind or of the other
+  pub no-beginning : (k l : Kind) (ns ms rest : List ℕ) → Accepted k ns → Accepted l ms → encodeAll ms ≡ encodeAll ns ++ rest → rest ≡ []
+  -- no accepted job's file is longer than its kind's greatest length, and a buffer of that length has room for each
+  pub at-most : (k : Kind) (ns : List ℕ) → Accepted k ns → length (encodeAll ns) ≤ greatestLength k
+  pub room : (k : Kind) (ns out : List ℕ) → Accepted k ns → greatestLength k ≤ length out → fileWritten k ns out ≡ Length (length (encodeAll ns))
