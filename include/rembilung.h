@@ -1,9 +1,11 @@
-/* The C interface of Rembilung: a scaffold job judged by section 5 of JGJ 130-2001, a job file written, a job file read.
+/* The C interface of Rembilung: a scaffold job or a formwork support judged by section 5 of JGJ 130-2001, a job file
+ * written, a job file read.
  *
- * What it does. A job is 25 whole numbers that describe one facade scaffold of tube and couplers. A job file is a job
- * packed into bytes: each number in groups of seven bits, low group first, top bit set on every byte but its last. The
- * column sheet is the table of stability factors, 502 bytes. From a sheet and a job file, rembilung_verdict writes a
- * report: eleven checks with verdict and figure, two heights, wind and slenderness.
+ * What it does. A scaffold job is 25 whole numbers that describe one facade scaffold of tube and couplers; a formwork
+ * support is 13, of which the first is 3. A job file is a job of either kind packed into bytes: each number in groups of
+ * seven bits, low group first, top bit set on every byte but its last. The column sheet is the table of stability
+ * factors, 502 bytes. From a sheet and a job file, rembilung_verdict writes a report: eleven checks with verdict and
+ * figure, two heights (of a scaffold), wind and slenderness.
  *
  *     uint32_t numbers[REMBILUNG_NUMBERS] = { 1, 1, 105, 150, 180, 2, 3000, 3, 4, 2, 3000, 5000, 0,
  *                                             300, 300, 1000, 1, 200, 1, 240, 1, 8000, 4, 200, 2000 };
@@ -14,11 +16,13 @@
  *     if (rembilung_refused(done)) ..
  *     fwrite(report, 1, (size_t)done, stdout);  the report has no closing zero byte
  *
+ * A support goes the same way, with 13 numbers and rembilung_write_support.
+ *
  * Every input is met by an answer or a refusal: nothing has to be tested before a call.
  *
- * Buffers. A pointer and the length after it are one lent buffer, and so are 25 numbers; nothing else is read or written. A pointer
- * is never null, not even where its length is 0. A buffer that is written shares no byte with another of the call.
- * Bytes may stand at any address; numbers stand where C puts a uint32_t. Sheets and job files are only read.
+ * Buffers. A pointer and the length after it are one lent buffer, and so are 25 numbers, or 13; nothing else is read or
+ * written. A pointer is never null, not even where its length is 0. A buffer that is written shares no byte with another
+ * of the call. Bytes may stand at any address; numbers stand where C puts a uint32_t. Sheets and job files are only read.
  *
  * No call keeps anything: there is no state, nothing is allocated or printed, and threads may call at the same time as
  * long as none writes to a buffer that another has lent.
@@ -39,14 +43,18 @@ extern "C" {
  * thousandths at slenderness k: 1 to 1,000, none above the entry before it, and the last at least 117. Between two
  * entries the stability factor lies on the straight line; above 250 it is 7320 / slenderness squared. */
 #define REMBILUNG_SHEET_BYTES 502
-/* The numbers of a job. */
+/* The numbers of a scaffold job, and of a formwork support. */
 #define REMBILUNG_NUMBERS 25
-/* No job file is longer, and no report: with buffers of these sizes refusal 8 never comes. */
+#define REMBILUNG_SUPPORT_NUMBERS 13
+/* No job file is longer, and no report: with buffers of these sizes refusal 8 never comes, whichever kind the job is. */
 #define REMBILUNG_FILE_MOST 42
 #define REMBILUNG_REPORT_MOST 168
+/* The same where the job is a support. */
+#define REMBILUNG_SUPPORT_FILE_MOST 24
+#define REMBILUNG_SUPPORT_REPORT_MOST 120
 
-/* The numbers of a job in their order: numbers[REMBILUNG_BAY] is the bay. Fields count from 1 in a refusal, so field p
- * is numbers[p - 1]. Beside each: the field, its unit, its range. */
+/* The numbers of a scaffold job in their order: numbers[REMBILUNG_BAY] is the bay. Fields count from 1 in a refusal, so
+ * field p is numbers[p - 1]. Beside each: the field, its unit, its range. */
 enum rembilung_number {
     REMBILUNG_FAMILY,          /*  1  1 double row of poles, 2 single row */
     REMBILUNG_TUBE,            /*  2  1 is 48 by 3.5 mm, 2 is 51 by 3.0 mm */
@@ -76,7 +84,24 @@ enum rembilung_number {
     REMBILUNG_PAD_AREA         /* 25  pad under one pole, cm2: 100 to 10,000 */
 };
 
-/* What every call returns: a length, below 2^32, or a refusal number times 2^32 plus its place.
+/* The numbers of a formwork support in their order (clause 5.6). Bay and spacing are alike, so that one number serves. */
+enum rembilung_support_number {
+    REMBILUNG_SUPPORT_KIND,            /*  1  3, which marks a support */
+    REMBILUNG_SUPPORT_TUBE,            /*  2  1 is 48 by 3.5 mm, 2 is 51 by 3.0 mm */
+    REMBILUNG_SUPPORT_STEP,            /*  3  step h, height between ledgers, cm: 60 to 200 */
+    REMBILUNG_SUPPORT_OVERHANG,        /*  4  a, what the pole stands out above its top ledger, cm: 0 to 100 */
+    REMBILUNG_SUPPORT_BAY,             /*  5  bay, pole spacing both ways, cm: 60 to 200 */
+    REMBILUNG_SUPPORT_DEAD,            /*  6  dead load on one pole, N: 0 to 60,000 */
+    REMBILUNG_SUPPORT_LIVE,            /*  7  live load on one pole, N: 0 to 60,000 */
+    REMBILUNG_SUPPORT_BASIC_WIND,      /*  8  basic wind pressure w0, N/m2: 0 to 2,000 */
+    REMBILUNG_SUPPORT_HEIGHT_FACTOR,   /*  9  wind's height factor, thousandths: 100 to 4,000 */
+    REMBILUNG_SUPPORT_SHAPE,           /* 10  wind's shape factor, thousandths: 0 to 2,000 */
+    REMBILUNG_SUPPORT_SOIL,            /* 11  1 gravel, 2 sand, 3 fill, 4 clay, 5 rock or concrete */
+    REMBILUNG_SUPPORT_GROUND_STRENGTH, /* 12  kPa: 10 to 2,000 */
+    REMBILUNG_SUPPORT_PAD_AREA         /* 13  pad under one pole, cm2: 100 to 10,000 */
+};
+
+/* What every call returns: a length or a count, below 2^32, or a refusal number times 2^32 plus its place.
  * On a refusal every buffer is as it was. On success only the length returned is written; what lies beyond is as it was.
  *
  *     refusal  when                                                          place
@@ -84,15 +109,17 @@ enum rembilung_number {
  *     2        an entry of the sheet is 0, above 1,000 or above the entry    the first such entry, from 0
  *              before it, or entry 250 is below 117
  *     3        a number is outside its range                                 the lowest such field, from 1
- *     4        more working layers than boarded layers, or a live load       10, or else 12
- *              summed over layers below the greatest on one layer
+ *     4        a scaffold: more working layers than boarded layers, or a     10, or else 12
+ *              live load summed over layers below the greatest on one layer
  *     5        a single row: wall thickness 180 mm or less, or make not 1    20, or else 21
  *     6        the job file ends inside or before a number, or a number is   offset of that number's first byte
  *              not in its shortest form or above 4,294,967,295
- *     7        the job file goes on after its 25th number                    offset of the first byte too many
+ *     7        the job file goes on after its 25th number, or after the      offset of the first byte too many
+ *              13th where its first is 3
  *     8        a buffer is too short                                         the length that it needs
  *
  * A place above 4,294,967,295 is given as 4,294,967,295. Where several refusals are due, each call says which goes first.
+ * Of a support 4 and 5 are never due.
  */
 static inline int rembilung_refused(uint64_t result) {
     return result >> 32 != 0;
@@ -103,13 +130,16 @@ static inline uint32_t rembilung_refusal(uint64_t result) {
     return (uint32_t)(result >> 32);
 }
 
-/* The place of a refusal; where nothing was refused, the length. */
+/* The place of a refusal; where nothing was refused, the length or the count. */
 static inline uint32_t rembilung_place(uint64_t result) {
     return (uint32_t)(result & 0xFFFFFFFFu);
 }
 
 /* The whole call: judges the job of a file under a sheet and writes the report.
  * Returns the report's length, or a refusal, the first of 1, 2, 6, 7, 3, 4, 5, 8.
+ *
+ * A file whose first number is 3 is read as a support's 13 numbers, any other as a scaffold's 25; a first number that is
+ * none of 1, 2 and 3 is refused 3 at field 1, unless 6 or 7 comes before.
  *
  * The report is text in ASCII: fourteen lines, each ended by one byte 0A (hexadecimal), one space between parts.
  *
@@ -132,18 +162,27 @@ static inline uint32_t rembilung_place(uint64_t result) {
  * a whole number. Z is rounded up too: to a tenth up to 250, to a whole number above, so that 250.1 is shown as 2510.
  * STABILITY is the greatest height from 0 to 6,000 cm at which checks 7 and 8 hold, the job's own height set aside.
  * PERMITTED is clause 5.3.7's: less than STABILITY from 2,600 cm on, and at most 5,000 (double row) or 2,400 (single
- * row). */
+ * row).
+ *
+ * A support is judged by clause 5.6, and its report has thirteen lines: the line "height" is left out. Checks 7, 8, 10
+ * and 11 apply, 8 also without wind; the others are shown with verdict 0 and figure 0. */
 uint64_t rembilung_verdict(const uint8_t *sheet, size_t sheet_len,
                            const uint8_t *file, size_t file_len,
                            uint8_t *report, size_t report_len);
 
-/* Writes a job, always 25 numbers, as a job file.
+/* Writes a scaffold job, always 25 numbers, as a job file. A first number of 3 is refused 3 at field 1.
  * Returns the file's length, or a refusal, the first of 3, 4, 5, 8. */
 uint64_t rembilung_write_job(const uint32_t numbers[REMBILUNG_NUMBERS],
                              uint8_t *file, size_t file_len);
 
-/* Reads a job file into 25 numbers. What is read writes back as the same bytes.
- * Returns 25, or a refusal, the first of 6, 7, 3, 4, 5. */
+/* Writes a formwork support, always 13 numbers, as a job file. A first number other than 3 is refused 3 at field 1.
+ * Returns the file's length, or a refusal, the first of 3, 8. */
+uint64_t rembilung_write_support(const uint32_t numbers[REMBILUNG_SUPPORT_NUMBERS],
+                                 uint8_t *file, size_t file_len);
+
+/* Reads a job file of either kind into lent room for 25 numbers. What is read writes back as the same bytes.
+ * Returns 25; or 13, where it is a support's: its numbers are the first 13, and the others are as they were; or a
+ * refusal, the first of 6, 7, 3, 4, 5. */
 uint64_t rembilung_read_job(const uint8_t *file, size_t file_len,
                             uint32_t numbers[REMBILUNG_NUMBERS]);
 

@@ -5,7 +5,7 @@ use mathlib.Core.List.{List}
 use Prim.Native.Nat.{ℕ, _≤_}
 use native.Mathlib.Nat.{le-trans}
 use native.Mathlib.Omega.{arith}
-use lib.Dec.{eqb}
+use lib.Dec.{eqb, lit≤}
 use lib.ListN.{length}
 use borrow.Author.Tests.{eqb-true, eqb-false}
 use Rattle.basis.specs.Refusal.{number, nothing}
@@ -14,8 +14,8 @@ use Rattle.basis.proofs.Refusals.{first-rest, first-here, first-nothing}
 use Rattle.basis.proofs.Writing.{room-nothing}
 use Rattle.jobfile.specs.Read.{jobIn}
 use Rattle.jobfile.specs.declared.ReadJob.{ReadJob}
-use Rattle.jobfile.specs.declared.ReadJob.the-variants.{Accepted, Refused}
-use Rattle.jobfile.proofs.Reading.{accepted-stands, refused-number}
+use Rattle.jobfile.specs.declared.ReadJob.the-variants.{Scaffold, Support, Refused}
+use Rattle.jobfile.proofs.Reading.{scaffold-stands, support-stands, refused-number}
 use Rattle.report.specs.Enough.{enough}
 use Rattle.report.proofs.Enough.{enough-is}
 use Rattle.rembilung.specs.Call.{entriesOf, refusalIn, reportIn, text, sheetRefusal, inputRefusal, callRefusal}
@@ -23,7 +23,8 @@ use Rattle.rembilung.specs.Call.{entriesOf, refusalIn, reportIn, text, s
 module _ (sheet file : List ℕ) where
   report-short : (read : ReadJob) → jobIn file ≡ read → length (reportIn (entriesOf sheet) read) ≤ enough
   unfolding reportIn
-  report-short (Accepted j) e = enough-is .no-longer (entriesOf sheet) j (accepted-stands file j e)
+  report-short (Scaffold j) e = enough-is .no-longer (entriesOf sheet) j (scaffold-stands file j e)
+  report-short (Support s) e = le-trans (enough-is .support-no-longer (entriesOf sheet) s (support-stands file s e)) (lit≤ tt)
   report-short (Refused refusal) e = omega arith
 
   -- no report is longer, and a file that is refused has none
@@ -33,7 +34,8 @@ module _ (sheet file : List ℕ) where
 
   file-nothing : (read : ReadJob) → jobIn file ≡ read → number (refusalIn read) ≡ 0 → refusalIn read ≡ nothing
   unfolding refusalIn
-  file-nothing (Accepted j) e h = refl
+  file-nothing (Scaffold j) e h = refl
+  file-nothing (Support s) e h = refl
   file-nothing (Refused refusal) e h = absurd (refused-number file e h)
 
   -- a refusal without a number has no place either

@@ -8,9 +8,12 @@ use lib.Dec.{lit<}
 use lib.ListN.{length, getD}
 use borrow.Author.Tests.{eq-eqb, ne-eqb}
 use Rattle.job.specs.declared.Job.{Job}
+use Rattle.support.specs.declared.Support.{Support}
+use Rattle.section5.specs.declared.Judgement.{Judgement}
 use Rattle.section5.specs.declared.Height.{Height}
 use Rattle.section5.specs.declared.Height.the-variants.{None, At}
 use Rattle.section5.specs.Section5.{checks, verdicts, figures, stability, heights, judgement}
+use Rattle.section5.specs.Formwork as Formwork
 use Rattle.report.specs.Digits.{digitByte, digits}
 use Rattle.report.specs.Report.{space, lineEnd, numberThen, checkLine, checkLines, pair, pairLine, heightLine, report}
 use Rattle.report.specs.ReadBack.{numberAt}
@@ -89,9 +92,18 @@ unfolding heightLine heights after heightAt pairLine pair
 line-height j None l = refl
 line-height j (At H) l = rw append-assoc (number-height H _)
 
+-- the report of any judgement shows its verdicts
+verdicts-shown : (g : Judgement) (rest : List ℕ) (i : ℕ) → length (g .verdicts) ≡ length (g .figures) → i < length (g .verdicts) → verdictShown (report g ++ rest) i ≡ getD (g .verdicts) i 0
+unfolding report
+verdicts-shown g rest i e l = rw append-assoc (lines-show 1 (g .verdicts) (g .figures) _ i e l)
+
 pub verdict-shown : (j : Job) (s rest : List ℕ) (i : ℕ) → i < checks → verdictShown (report (judgement j s) ++ rest) i ≡ getD (verdicts j s) i 0
-unfolding report judgement verdicts figures
-verdict-shown j s rest i l = rw append-assoc (lines-show 1 (verdicts j s) (figures j) _ i refl l)
+unfolding judgement verdicts figures
+verdict-shown j s rest i l = verdicts-shown (judgement j s) rest i refl l
+
+pub support-verdict-shown : (s : Support) (sheet rest : List ℕ) (i : ℕ) → i < checks → verdictShown (report (Formwork.judgement s sheet) ++ rest) i ≡ getD (Formwork.verdicts s sheet) i 0
+unfolding Formwork.judgement Formwork.verdicts Formwork.figures
+support-verdict-shown s sheet rest i l = verdicts-shown (Formwork.judgement s sheet) rest i refl l
 
 pub height-shown : (j : Job) (s rest : List ℕ) → heightShown (report (judgement j s) ++ rest) ≡ stability j s
 unfolding report judgement heightShown shownIn verdicts figures

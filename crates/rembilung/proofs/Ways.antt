@@ -14,9 +14,11 @@ use Rattle.job.specs.declared.Job.{Job}
 use Rattle.sheet.specs.Sheet as Sheet
 use Rattle.sheet.specs.Rows.{Stands}
 use Rattle.sheet.proofs.Rows.{unrefused-stands}
+use Rattle.support.specs.declared.Support as Declared
 use Rattle.section5.specs.Section5.{judgement}
+use Rattle.section5.specs.Formwork as Formwork
 use Rattle.jobfile.specs.Read.{jobIn}
-use Rattle.jobfile.specs.declared.ReadJob.the-variants.{Accepted, Refused}
+use Rattle.jobfile.specs.declared.ReadJob.the-variants.{Scaffold, Support, Refused}
 use Rattle.jobfile.proofs.Reading.{refused-number}
 use Rattle.report.specs.Report.{reportWritten, reportLeft}
 use Rattle.rembilung.specs.Code.{code, writtenCode}
@@ -60,9 +62,14 @@ module _ (sheet file out : List ℕ) where
       bad-file {r} e = refused (rw (later, e) refl) (refused-number file e)
 
       -- the report, or a buffer too short for it
-      reported : {j : Job} → jobIn file ≡ Accepted j → (writtenCode (reportWritten (judgement j (entriesOf sheet)) out) ≡ callCode sheet file out) × (reportLeft (judgement j (entriesOf sheet)) out ≡ callBuffer sheet file out)
+      reported : {j : Job} → jobIn file ≡ Scaffold j → (writtenCode (reportWritten (judgement j (entriesOf sheet)) out) ≡ callCode sheet file out) × (reportLeft (judgement j (entriesOf sheet)) out ≡ callBuffer sheet file out)
       unfolding callRefusal callCode callBuffer refusalIn reportIn text first
       reported e = rw (later, e) (refl, refl)
+
+      support-reported : {s : Declared.Support} → jobIn file ≡ Support s
+          → (writtenCode (reportWritten (Formwork.judgement s (entriesOf sheet)) out) ≡ callCode sheet file out) × (reportLeft (Formwork.judgement s (entriesOf sheet)) out ≡ callBuffer sheet file out)
+      unfolding callRefusal callCode callBuffer refusalIn reportIn text first
+      support-reported e = rw (later, e) (refl, refl)
 
     -- the same with the entries that the code has read
     module _ {entries : List ℕ} {r : Refusal} (n : entries ≡ entriesOf sheet) (e : r ≡ Sheet.examination entries) (h : number r ≡ 0) where
@@ -72,5 +79,8 @@ module _ (sheet file out : List ℕ) where
       pub file-way : {x : Refusal} {c : ℕ} → jobIn file ≡ Refused x → c ≡ code x → (c ≡ callCode sheet file out) × (out ≡ callBuffer sheet file out)
       file-way f g = let b = bad-file unrefused f in (g ∙ b .0, b .1)
 
-      pub report-way : {j : Job} {c : ℕ} {after : List ℕ} → jobIn file ≡ Accepted j → c ≡ writtenCode (reportWritten (judgement j entries) out) → after ≡ reportLeft (judgement j entries) out → (c ≡ callCode sheet file out) × (after ≡ callBuffer sheet file out)
+      pub report-way : {j : Job} {c : ℕ} {after : List ℕ} → jobIn file ≡ Scaffold j → c ≡ writtenCode (reportWritten (judgement j entries) out) → after ≡ reportLeft (judgement j entries) out → (c ≡ callCode sheet file out) × (after ≡ callBuffer sheet file out)
       report-way f g a = let b = reported unrefused f in (rw n at g ∙ b .0, rw n at a ∙ b .1)
+
+      pub support-way : {s : Declared.Support} {c : ℕ} {after : List ℕ} → jobIn file ≡ Support s → c ≡ writtenCode (reportWritten (Formwork.judgement s entries) out) → after ≡ reportLeft (Formwork.judgement s entries) out → (c ≡ callCode sheet file out) × (after ≡ callBuffer sheet file out)
+      support-way f g a = let b = support-reported unrefused f in (rw n at g ∙ b .0, rw n at a ∙ b .1)

@@ -1,23 +1,25 @@
 -- The exported calls, each by definition over the lists that were lent to it: what it returns, and what it leaves.
 -- Assumes nothing.
-use mathlib.Core.Bool.{cond}
 use Prim.Native.Nat.{ℕ}
-use mathlib.Core.List.{List, []}
+use mathlib.Core.List.{List, [], _++_}
 use lib.Dec.{eqb}
-use lib.ListN.{length}
+use lib.ListN.{length, drop}
 use Rattle.basis.specs.Refusal.{nothing, sheetLength, unless, first}
 use Rattle.basis.specs.declared.Refusal.{Refusal}
 use Rattle.basis.specs.Writing.{roomRefusal, writtenOr, leftOr}
-use Rattle.job.specs.Job.{jobOf}
+use Rattle.job.specs.Job as Job
+use Rattle.support.specs.Support as Support
 use Rattle.sheet.specs.Bytes.{entries}
 use Rattle.sheet.specs.Sheet.{examination}
 use Rattle.section5.specs.Section5.{judgement}
-use Rattle.jobfile.specs.Read.{jobNumbers, jobIn, readValues}
+use Rattle.section5.specs.Formwork as Formwork
+use Rattle.jobfile.specs.Kind.{Kind, scaffold, support}
+use Rattle.jobfile.specs.Read.{jobIn}
 use Rattle.jobfile.specs.Write.{fileWritten, fileLeft}
 use Rattle.jobfile.specs.declared.ReadJob.{ReadJob}
-use Rattle.jobfile.specs.declared.ReadJob.the-variants.{Accepted, Refused}
+use Rattle.jobfile.specs.declared.ReadJob.the-variants.{Scaffold, Support, Refused}
 use Rattle.report.specs.Report.{report}
-use Rattle.rembilung.specs.Code.{codeOf, writtenCode}
+use Rattle.rembilung.specs.Code.{code, writtenCode}
 
 -- the 251 entries of 502 bytes, each low byte first
 abbrev pub entriesOf : List ℕ → List ℕ
@@ -25,12 +27,14 @@ entriesOf sheet = entries sheet 251
 
 -- what reading a file refuses
 unfoldable pub refusalIn : ReadJob → Refusal
-refusalIn (Accepted j) = nothing
+refusalIn (Scaffold j) = nothing
+refusalIn (Support s) = nothing
 refusalIn (Refused refusal) = refusal
 
 -- the report of what was read, under the entries of a sheet; none of a file that is refused
 unfoldable pub reportIn : List ℕ → ReadJob → List ℕ
-reportIn sheet (Accepted j) = report (judgement j sheet)
+reportIn sheet (Scaffold j) = report (judgement j sheet)
+reportIn sheet (Support s) = report (Formwork.judgement s sheet)
 reportIn sheet (Refused refusal) = []
 
 -- the report of a sheet and a file
@@ -57,22 +61,34 @@ callCode sheet file out = writtenCode (writtenOr (callRefusal sheet file out) (l
 unfoldable pub callBuffer : List ℕ → List ℕ → List ℕ → List ℕ
 callBuffer sheet file out = leftOr (callRefusal sheet file out) (text sheet file) out
 
--- writing the job file of 25 numbers returns its length alone, or the refusal and its place
-unfoldable pub writeCode : List ℕ → List ℕ → ℕ
-writeCode numbers out = writtenCode (fileWritten (jobOf numbers) out)
+-- the numbers of the job that a kind's numbers make: the same, where there are as many as it has
+abbrev pub numbersAs : Kind → List ℕ → List ℕ
+numbersAs scaffold ns = Job.numbers (Job.jobOf ns)
+numbersAs support ns = Support.numbers (Support.supportOf ns)
+
+-- writing the job file of a kind's numbers returns its length alone, or the refusal and its place
+unfoldable pub writeCode : Kind → List ℕ → List ℕ → ℕ
+writeCode kind ns out = writtenCode (fileWritten kind (numbersAs kind ns) out)
 
 -- the file buffer afterwards: the file and every later byte as it was, or every byte as it was
-unfoldable pub writeBuffer : List ℕ → List ℕ → List ℕ
-writeBuffer numbers out = fileLeft (jobOf numbers) out
+unfoldable pub writeBuffer : Kind → List ℕ → List ℕ → List ℕ
+writeBuffer kind ns out = fileLeft kind (numbersAs kind ns) out
 
--- the values of what is read: the 25 numbers of a job, or the refusal's number and its place
-abbrev pub valuesIn : List ℕ → List ℕ
-valuesIn file = readValues (jobIn file)
+-- what reading returns: how many numbers the job has, or the refusal and its place
+unfoldable pub returnedIn : ReadJob → ℕ
+returnedIn (Scaffold j) = 25
+returnedIn (Support s) = 13
+returnedIn (Refused refusal) = code refusal
 
--- reading a job file returns 25 where there are 25 values, or the refusal and its place
+-- the 25 numbers afterwards: a scaffold's, or a support's 13 and the others as they were, or each as it was
+unfoldable pub leftIn : ReadJob → List ℕ → List ℕ
+leftIn (Scaffold j) before = Job.numbers j
+leftIn (Support s) before = Support.numbers s ++ drop 13 before
+leftIn (Refused refusal) before = before
+
+-- of a job file
 unfoldable pub readCode : List ℕ → ℕ
-readCode file = cond (eqb (length (valuesIn file)) jobNumbers) jobNumbers (codeOf (valuesIn file))
+readCode file = returnedIn (jobIn file)
 
--- the numbers afterwards: the 25 values, or each as it was
 unfoldable pub readBuffer : List ℕ → List ℕ → List ℕ
-readBuffer file before = cond (eqb (length (valuesIn file)) jobNumbers) (valuesIn file) before
+readBuffer file before = leftIn (jobIn file) before

@@ -1,8 +1,11 @@
-// The C interface: the whole call, and job files for a host that keys numbers in.
+// The C interface: the whole call, and job files of both kinds for a host that keys numbers in.
 ghost use mathlib.Core.Path.{_≡_};
 ghost use Rattle.job.specs.Rows.{Stands as JobStands};
+ghost use Rattle.support.specs.Rows.{Stands as SupportStands};
 ghost use Rattle.sheet.specs.Rows.{Stands};
 ghost use Rattle.section5.specs.Section5.{judgement};
+ghost use Rattle.section5.specs.Formwork as Formwork;
+ghost use Rattle.jobfile.specs.Kind.{scaffold, support};
 ghost use Rattle.report.specs.Report.{reportWritten, reportLeft};
 ghost use Rattle.rembilung.specs.Code.{code, writtenCode};
 ghost use Rattle.rembilung.specs.Call.{callCode, callBuffer, writeCode, writeBuffer, readCode, readBuffer};
@@ -10,11 +13,14 @@ use basis::Refusal;
 use basis::SHEET_LENGTH;
 use basis::Written;
 use basis::least_of;
+use formwork::judge_accepted_support;
 use job::Job;
-use job::from_numbers;
-use job::to_numbers;
+use jobfile::JOB_NUMBERS;
 use jobfile::ReadJob;
+use jobfile::SUPPORT_NUMBERS;
+use jobfile::over_front;
 use judge::judge_accepted;
+use support::Support;
 
 // A refusal as one number: its number above 32 bits, its place below.
 fn code_of(refusal: Refusal) -> u64
@@ -34,25 +40,38 @@ fn written_code(written: Written) -> u64
     }
 }
 
-// The job file of 25 numbers: its length, or a refusal (3, 4, 5, 8).
+// The job file of a scaffold's 25 numbers: its length, or a refusal (3, 4, 5, 8).
 #[no_mangle]
 pub extern "C" fn rembilung_write_job(numbers: &[u32; 25], file: &mut [u8]) -> u64
-    ensures returned { λ r. ⌜ r ≡ writeCode (now (numbers .entry)) (now (file .entry)) ⌝ }
-    ensures buffer { λ _. ⌜ now (file .exit) ≡ writeBuffer (now (numbers .entry)) (now (file .entry)) ⌝ }
+    ensures returned { λ r. ⌜ r ≡ writeCode scaffold (now (numbers .entry)) (now (file .entry)) ⌝ }
+    ensures buffer { λ _. ⌜ now (file .exit) ≡ writeBuffer scaffold (now (numbers .entry)) (now (file .entry)) ⌝ }
 {
-    written_code(jobfile::write(from_numbers(*numbers), file))
+    written_code(jobfile::write(job::from_numbers(*numbers), file))
 }
 
-// The 25 numbers of a job file: 25, or a refusal (6, 7, 3, 4, 5), with the numbers as they were.
+// The job file of a support's 13 numbers: its length, or a refusal (3, 8).
+#[no_mangle]
+pub extern "C" fn rembilung_write_support(numbers: &[u32; 13], file: &mut [u8]) -> u64
+    ensures returned { λ r. ⌜ r ≡ writeCode support (now (numbers .entry)) (now (file .entry)) ⌝ }
+    ensures buffer { λ _. ⌜ now (file .exit) ≡ writeBuffer support (now (numbers .entry)) (now (file .entry)) ⌝ }
+{
+    written_code(jobfile::write_support(support::from_numbers(*numbers), file))
+}
+
+// The numbers of a job file: 25, or 13 and the others as they were; or a refusal (6, 7, 3, 4, 5), with the numbers as they were.
 #[no_mangle]
 pub extern "C" fn rembilung_read_job(file: &[u8], numbers: &mut [u32; 25]) -> u64
     ensures returned { λ r. ⌜ r ≡ readCode (now (file .entry)) ⌝ }
     ensures buffer { λ _. ⌜ now (numbers .exit) ≡ readBuffer (now (file .entry)) (now (numbers .entry)) ⌝ }
 {
     match jobfile::read(file) {
-        ReadJob::Accepted(j) => {
-            *numbers = to_numbers(j);
-            25
+        ReadJob::Scaffold(j) => {
+            *numbers = job::to_numbers(j);
+            JOB_NUMBERS as u64
+        }
+        ReadJob::Support(s) => {
+            *numbers = over_front(support::to_numbers(s), *numbers);
+            SUPPORT_NUMBERS as u64
         }
         ReadJob::Refused(refusal) => code_of(refusal),
     }
@@ -65,6 +84,15 @@ fn report_into(sheet: &[u16], j: Job, out: &mut [u8]) -> u64
     ensures buffer { λ _. ⌜ now (out .exit) ≡ reportLeft (judgement j (now (sheet .entry))) (now (out .entry)) ⌝ }
 {
     written_code(report::write(judge_accepted(sheet, j), out))
+}
+
+// The same for a support.
+fn support_report_into(sheet: &[u16], s: Support, out: &mut [u8]) -> u64
+    requires { ⌜ Stands (now sheet) × SupportStands s ⌝ }
+    ensures returned { λ r. ⌜ r ≡ writtenCode (reportWritten (Formwork.judgement s (now (sheet .entry))) (now (out .entry))) ⌝ }
+    ensures buffer { λ _. ⌜ now (out .exit) ≡ reportLeft (Formwork.judgement s (now (sheet .entry))) (now (out .entry)) ⌝ }
+{
+    written_code(report::write(judge_accepted_support(sheet, s), out))
 }
 
 // The whole call: the report's length, or a refusal (1, 2, 6, 7, 3, 4, 5, 8), with the buffer as it was.
@@ -86,7 +114,8 @@ pub extern "C" fn rembilung_verdict(sheet: &[u8], file: &[u8], report: &mut [u8]
         return code_of(refused);
     }
     match jobfile::read(file) {
-        ReadJob::Accepted(j) => report_into(&entries, j, report),
+        ReadJob::Scaffold(j) => report_into(&entries, j, report),
+        ReadJob::Support(s) => support_report_into(&entries, s, report),
         ReadJob::Refused(refusal) => code_of(refusal),
     }
 }

@@ -22,8 +22,11 @@ mod lines;
 pub mod refusal;
 mod text;
 
-// A buffer of that length has room for the report of every accepted job (specs/Enough.antt).
+// A buffer of that length has room for the report of every accepted job, scaffold's or support's (specs/Enough.antt).
 pub const ENOUGH: usize = 168;
+
+// One of this length for that of every accepted support.
+pub const SUPPORT_ENOUGH: usize = 120;
 
 // How many bytes the report of a judgement has.
 fn report_length(g: Judgement) -> usize

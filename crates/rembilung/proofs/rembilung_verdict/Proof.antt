@@ -1,8 +1,8 @@
 -- `rembilung_verdict` meets its contract. Assumes nothing.
 use mathlib.Core.Path.{sym, _∙_}
 use borrow.Author.Needs.{needs}
-use Rattle.jobfile.proofs.Reading.{accepted-stands}
-use Rattle.rembilung.proofs.Ways.{sheet-accepted, bad-length, bad-sheet, file-way, report-way}
+use Rattle.jobfile.proofs.Reading.{scaffold-stands, support-stands}
+use Rattle.rembilung.proofs.Ways.{sheet-accepted, bad-length, bad-sheet, file-way, report-way, support-way}
 use Rattle.rembilung.proofs.rembilung_verdict.Statement.{statement}
 use Rattle.rembilung.proofs.rembilung_verdict.Tie as tie
 
@@ -20,9 +20,14 @@ rembilung-verdict-spec =
     (λ c κs. search needs)  -- read-requires
     (λ c. search needs)  -- enum-known-j
     (λ c. search needs)  -- slice-aggregate-report-into
-    (λ c κs. (sheet-accepted _ (c .before .before .before .before .before .before .before .before .examine .ensures) (c .before .before .before .before .before .before .if2 .left), accepted-stands _ _ (sym (c .before .before .before .before .before .read .ensures) ∙ c .before .before .before .j .given .1)))  -- report-into-requires
+    (λ c κs. (sheet-accepted _ (c .before .before .before .before .before .before .before .before .examine .ensures) (c .before .before .before .before .before .before .if2 .left), scaffold-stands _ _ (sym (c .before .before .before .before .before .read .ensures) ∙ c .before .before .before .j .given .1)))  -- report-into-requires
+    (λ c. search needs)  -- enum-known-s
+    (λ c. search needs)  -- slice-aggregate-support-report-into
+    (λ c κs. (sheet-accepted _ (c .before .before .before .before .before .before .before .before .examine .ensures) (c .before .before .before .before .before .before .if2 .left), support-stands _ _ (sym (c .before .before .before .before .before .read .ensures) ∙ c .before .before .before .s .given .1)))  -- support-report-into-requires
     (λ c. search needs)  -- enum-known-refusal
     (λ c κs. search needs)  -- code-of-requires-3
     (λ c. search needs)  -- same-length
     (λ c. report-way _ _ _ (search needs) (c .before .before .before .before .before .before .before .before .before .before .before .before .before .entries-of .ensures) (c .before .before .before .before .before .before .before .before .before .before .before .examine .ensures) (c .before .before .before .before .before .before .before .before .before .if2 .left) (sym (c .before .before .before .before .before .before .before .before .read .ensures) ∙ c .before .before .before .before .before .before .j .given .1) (c .before .before .report-into .ensures .0) (c .before .before .report-into .ensures .1))  -- returns-3
-    (λ c. file-way _ _ _ (search needs) (c .before .before .before .before .before .before .before .before .before .entries-of .ensures) (c .before .before .before .before .before .before .before .examine .ensures) (c .before .before .before .before .before .if2 .left) (sym (c .before .before .before .before .read .ensures) ∙ c .before .before .refusal .given .1) (c .code-of3 .ensures)))  -- returns-4
+    (λ c. search needs)  -- same-length-2
+    (λ c. support-way _ _ _ (search needs) (c .before .before .before .before .before .before .before .before .before .before .before .before .before .entries-of .ensures) (c .before .before .before .before .before .before .before .before .before .before .before .examine .ensures) (c .before .before .before .before .before .before .before .before .before .if2 .left) (sym (c .before .before .before .before .before .before .before .before .read .ensures) ∙ c .before .before .before .before .before .before .s .given .1) (c .before .before .support-report-into .ensures .0) (c .before .before .support-report-into .ensures .1))  -- returns-4
+    (λ c. file-way _ _ _ (search needs) (c .before .before .before .before .before .before .before .before .before .entries-of .ensures) (c .before .before .before .before .before .before .before .examine .ensures) (c .before .before .before .before .before .if2 .left) (sym (c .before .before .before .before .read .ensures) ∙ c .before .before .refusal .given .1) (c .code-of3 .ensures)))  -- returns-5

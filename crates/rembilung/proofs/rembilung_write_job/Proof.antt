@@ -1,6 +1,6 @@
 -- `rembilung_write_job` meets its contract. Assumes nothing.
 use borrow.Author.Needs.{needs}
-use Rattle.rembilung.specs.Call.{writeCode, writeBuffer}
+use Rattle.rembilung.proofs.Returned.{written-scaffold}
 use Rattle.rembilung.proofs.rembilung_write_job.Statement.{statement}
 use Rattle.rembilung.proofs.rembilung_write_job.Tie as tie
 
@@ -12,4 +12,4 @@ rembilung-write-job-spec =
     (λ c κs. search needs)  -- write-requires
     (λ c κs. search needs)  -- written-code-requires
     (λ c. search needs)  -- same-length
-    (λ c. (unfold writeCode in cc, unfold writeBuffer in cc)))  -- returns
+    (λ c. written-scaffold _ _ (c .before .before .before .before .before .from-numbers .ensures) (c .before .before .before .write .ensures .0) (c .written-code .ensures) (c .before .before .before .write .ensures .1)))  -- returns
