@@ -8,6 +8,7 @@ use lib.Dec.{eqb}
 use lib.ListN.{length, take}
 use Rattle.basis.specs.Refusal.{number, place, sheetLength}
 use Rattle.basis.specs.declared.Refusal.{Refusal}
+use Rattle.jobfile.specs.Kind.{Kind}
 use Rattle.jobfile.specs.Beginning.{beginningLength}
 use Rattle.groups.specs.Decode.{Bytes}
 use Rattle.rembilung.specs.Call.{text, inputRefusal}
@@ -34,4 +35,4 @@ pub record Beginnings : Type 0 where
 -- what is printed, from the facts of the table: the line of the row that applies, whatever the buffer, or the report
 pub record Prints : Type 0 where
   pub refused : (sheet file : List ℕ) → Bytes file → (n p : ℕ) → InputRow sheet file n p → printed sheet file ≡ refusedLine n (min p 4294967295)
-  pub reported : (sheet file : List ℕ) → Bytes file → (ns : List ℕ) → Judges sheet file ns → printed sheet file ≡ reportOf sheet ns
+  pub reported : (sheet file : List ℕ) → Bytes file → (k : Kind) (ns : List ℕ) → Judges k sheet file ns → printed sheet file ≡ reportOf k sheet ns

@@ -49,7 +49,7 @@ pub enum ReadJob {
 }
 
 // The first 13 of 25 numbers.
-fn front_of(n: [u32; MOST]) -> [u32; SUPPORT_NUMBERS]
+pub fn front_of(n: [u32; MOST]) -> [u32; SUPPORT_NUMBERS]
     ensures { λ r. ⌜ r ≡ take 13 n ⌝ }
 {
     [

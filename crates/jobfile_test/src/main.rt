@@ -3,10 +3,10 @@ use basis::NOTHING;
 use basis::Refusal;
 use basis::Written;
 use groups::read_numbers;
-use job::Job;
-use job::from_numbers;
 use jobfile::JOB_NUMBERS;
 use jobfile::ReadJob;
+use jobfile::SUPPORT_NUMBERS;
+use jobfile::front_of;
 use libc::STDOUT_FILENO;
 
 fn wide(b: u8) -> u64 {
@@ -19,7 +19,8 @@ fn byte_at(s: &[u8], i: usize) -> u64 {
 
 fn refusal_read(found: ReadJob) -> Refusal {
     match found {
-        ReadJob::Accepted(_) => NOTHING,
+        ReadJob::Scaffold(_) => NOTHING,
+        ReadJob::Support(_) => NOTHING,
         ReadJob::Refused(refusal) => refusal,
     }
 }
@@ -46,12 +47,16 @@ fn is_refusal(refusal: Refusal, number: u64, place: u64) -> bool {
     }
 }
 
-// Writes a job into the first bytes of a buffer.
-fn write_part(j: Job, out: &mut [u8], length: usize) -> Written {
+// Writes a job of either kind into the first bytes of a buffer.
+fn write_part(j: ReadJob, out: &mut [u8], length: usize) -> Written {
     if out.len() < length {
         return Written::Refused(NOTHING);
     }
-    jobfile::write(j, &mut out[..length])
+    match j {
+        ReadJob::Scaffold(scaffold) => jobfile::write(scaffold, &mut out[..length]),
+        ReadJob::Support(support) => jobfile::write_support(support, &mut out[..length]),
+        ReadJob::Refused(refusal) => Written::Refused(refusal),
+    }
 }
 
 fn same_front(a: &[u8], b: &[u8], n: usize) -> bool {
@@ -75,7 +80,7 @@ fn same_rest(a: &[u8], b: &[u8], n: usize) -> bool {
 }
 
 // In a buffer of a length, a job is written as its file, and the bytes after it are untouched.
-fn written_at(j: Job, length: usize, file: &[u8]) -> bool {
+fn written_at(j: ReadJob, length: usize, file: &[u8]) -> bool {
     let n = file.len();
     let fresh = [165u8; 96];
     let mut out = [165u8; 96];
@@ -90,7 +95,7 @@ fn written_at(j: Job, length: usize, file: &[u8]) -> bool {
 }
 
 // In a buffer of a length, a job is refused, and every byte is untouched.
-fn refused_at(j: Job, length: usize, number: u64, place: u64) -> bool {
+fn refused_at(j: ReadJob, length: usize, number: u64, place: u64) -> bool {
     let fresh = [165u8; 96];
     let mut out = [165u8; 96];
     let refusal = refusal_written(write_part(j, &mut out, length));
@@ -102,7 +107,7 @@ fn refused_at(j: Job, length: usize, number: u64, place: u64) -> bool {
 }
 
 // With room, in the file's own length, and in a byte less.
-fn writes_back(j: Job, file: &[u8]) -> bool {
+fn writes_back(j: ReadJob, file: &[u8]) -> bool {
     let n = file.len();
     if n == 0 {
         return false;
@@ -117,18 +122,32 @@ fn writes_back(j: Job, file: &[u8]) -> bool {
     }
 }
 
-// The 25 numbers of a file whose bytes stand, written: back as the file, or refused as in reading.
-fn write_agrees(file: &[u8], number: u64, place: u64) -> bool {
-    let found = read_numbers(file, JOB_NUMBERS);
+// The job of a file's numbers, whatever of them is out of range; refused where the bytes do not stand.
+fn unexamined(file: &[u8]) -> ReadJob {
+    let marked = byte_at(file, 0) == 3;
+    let count = if marked { SUPPORT_NUMBERS } else { JOB_NUMBERS };
+    let found = read_numbers(file, count);
     let refusal = found.refusal;
     let numbers = found.numbers;
+    if refusal.number != 0 {
+        return ReadJob::Refused(refusal);
+    }
+    if marked {
+        return ReadJob::Support(support::from_numbers(front_of(numbers)));
+    }
+    ReadJob::Scaffold(job::from_numbers(numbers))
+}
+
+// The numbers of a file whose bytes stand, written: back as the file, or refused as in reading.
+fn write_agrees(file: &[u8], number: u64, place: u64) -> bool {
+    let j = unexamined(file);
+    let refusal = refusal_read(j);
     if 5 < number {
         return is_refusal(refusal, number, place);
     }
     if !is_refusal(refusal, 0, 0) {
         return false;
     }
-    let j = from_numbers(numbers);
     if number == 0 {
         return writes_back(j, file);
     }

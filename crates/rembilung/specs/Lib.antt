@@ -4,3 +4,4 @@ pub mod Table
 pub mod Header
 pub mod Shown
 pub mod Demands
+pub mod Marked
