@@ -47,16 +47,21 @@ fn is_refusal(refusal: Refusal, number: u64, place: u64) -> bool {
     }
 }
 
-// Writes a job of either kind into the first bytes of a buffer.
+// Writes a job of either kind.
+fn write_any(j: ReadJob, out: &mut [u8]) -> Written {
+    match j {
+        ReadJob::Scaffold(scaffold) => jobfile::write(scaffold, out),
+        ReadJob::Support(support) => jobfile::write_support(support, out),
+        ReadJob::Refused(refusal) => Written::Refused(refusal),
+    }
+}
+
+// Writes a job into the first bytes of a buffer.
 fn write_part(j: ReadJob, out: &mut [u8], length: usize) -> Written {
     if out.len() < length {
         return Written::Refused(NOTHING);
     }
-    match j {
-        ReadJob::Scaffold(scaffold) => jobfile::write(scaffold, &mut out[..length]),
-        ReadJob::Support(support) => jobfile::write_support(support, &mut out[..length]),
-        ReadJob::Refused(refusal) => Written::Refused(refusal),
-    }
+    write_any(j, &mut out[..length])
 }
 
 fn same_front(a: &[u8], b: &[u8], n: usize) -> bool {
@@ -122,20 +127,34 @@ fn writes_back(j: ReadJob, file: &[u8]) -> bool {
     }
 }
 
-// The job of a file's numbers, whatever of them is out of range; refused where the bytes do not stand.
-fn unexamined(file: &[u8]) -> ReadJob {
-    let marked = byte_at(file, 0) == 3;
-    let count = if marked { SUPPORT_NUMBERS } else { JOB_NUMBERS };
-    let found = read_numbers(file, count);
+// The job of a file's 25 numbers, whatever of them is out of range; refused where the bytes do not stand.
+fn unexamined_scaffold(file: &[u8]) -> ReadJob {
+    let found = read_numbers(file, JOB_NUMBERS);
     let refusal = found.refusal;
     let numbers = found.numbers;
     if refusal.number != 0 {
         return ReadJob::Refused(refusal);
     }
-    if marked {
-        return ReadJob::Support(support::from_numbers(front_of(numbers)));
-    }
     ReadJob::Scaffold(job::from_numbers(numbers))
+}
+
+// The same of a support's 13.
+fn unexamined_support(file: &[u8]) -> ReadJob {
+    let found = read_numbers(file, SUPPORT_NUMBERS);
+    let refusal = found.refusal;
+    let numbers = found.numbers;
+    if refusal.number != 0 {
+        return ReadJob::Refused(refusal);
+    }
+    ReadJob::Support(support::from_numbers(front_of(numbers)))
+}
+
+fn unexamined(file: &[u8]) -> ReadJob {
+    if byte_at(file, 0) == 3 {
+        unexamined_support(file)
+    } else {
+        unexamined_scaffold(file)
+    }
 }
 
 // The numbers of a file whose bytes stand, written: back as the file, or refused as in reading.
