@@ -21,7 +21,7 @@ static int width_is_right(const Csv *csv, const Columns *columns, Answer *answer
     if (cells > width)
         text_add(&answer->words, " is the first too many");
     else if (k < REMBILUNG_NUMBERS)
-        text_add(&answer->words, ", %s, is missing", fields[k].name);
+        text_add(&answer->words, ", %s, is missing", scaffold.fields[k].name);
     else
         text_add(&answer->words, " is missing");
     return 0;
@@ -52,7 +52,7 @@ int read_cells(const Csv *csv, const Columns *columns, uint32_t *numbers, Answer
         if (kind == NUMBER_READ || bad++ > 0)
             continue;
         answer->column = columns->of[k];
-        explain_cell(answer, kind, bytes, length, &fields[k]);
+        explain_cell(answer, kind, bytes, length, &scaffold.fields[k]);
     }
     if (bad > 1)
         text_add(&answer->words, "; cells of the row that are no number: %d", bad);

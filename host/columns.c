@@ -21,7 +21,7 @@ static int field_named(const Csv *row, size_t cell) {
     size_t length;
     const char *bytes = csv_trimmed(row, cell, &length);
     int k = 0;
-    while (k < REMBILUNG_NUMBERS && !same_name(fields[k].name, bytes, length))
+    while (k < REMBILUNG_NUMBERS && !same_name(scaffold.fields[k].name, bytes, length))
         k++;
     return k;
 }
@@ -76,7 +76,7 @@ static int take_cell(const Csv *row, size_t cell, Columns *columns, FILE *said) 
         csv_letters(columns->of[k], first);
         csv_letters(cell, second);
         fprintf(said, "rembilung: row %" PRIu64 ": columns %s and %s are both named '%s'\n", row->row, first, second,
-                fields[k].name);
+                scaffold.fields[k].name);
         return 0;
     }
     columns->of[k] = cell;
@@ -87,7 +87,7 @@ static int none_missing(const Csv *row, const Columns *columns, FILE *said) {
     int missing = 0;
     for (int k = 0; k < REMBILUNG_NUMBERS; k++)
         if (columns->of[k] == NO_COLUMN) {
-            fprintf(said, "rembilung: row %" PRIu64 ": no column is named '%s'\n", row->row, fields[k].name);
+            fprintf(said, "rembilung: row %" PRIu64 ": no column is named '%s'\n", row->row, scaffold.fields[k].name);
             missing++;
         }
     return missing == 0;
@@ -126,6 +126,6 @@ int columns_of(const Csv *first, Columns *columns, FILE *said) {
 
 void print_template(FILE *to) {
     for (int k = 0; k < REMBILUNG_NUMBERS; k++)
-        fprintf(to, "%s%s", k == 0 ? "" : ",", fields[k].name);
+        fprintf(to, "%s%s", k == 0 ? "" : ",", scaffold.fields[k].name);
     fputs("\n", to);
 }

@@ -4,9 +4,9 @@
 
 #include "options.h"
 
-/* One job, from 25 numbers or a job file; the command that has no name. */
+/* One job of either kind, from its numbers or a job file; the command that has no name. */
 int judge_one(Words words);
-/* A table of jobs, one row per facade. */
+/* A table of scaffold jobs, one row per facade. */
 int depot(Words words);
 /* A column sheet from text, and back. */
 int pack_sheet(Words words);

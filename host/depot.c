@@ -76,7 +76,7 @@ static int prepare_sheet(const char *path, Sheet *sheet) {
     uint64_t checked = check_sheet(sheet->bytes, sheet->length);
     if (!rembilung_refused(checked))
         return 1;
-    explain_line(stderr, checked, NULL);
+    explain_line(stderr, checked, &scaffold, NULL);
     return 0;
 }
 

@@ -16,11 +16,12 @@ static void say_sheet(Text *to, uint32_t refusal, uint32_t place) {
              2 * place, 2 * place + 1, entry_rule);
 }
 
-static void say_range(Text *to, uint32_t place, const uint32_t *numbers) {
-    const Field *field = &fields[(place - 1) % REMBILUNG_NUMBERS];
+static void say_range(Text *to, uint32_t place, const Kind *kind, const uint32_t *numbers) {
+    uint32_t k = (place - 1) % (uint32_t)kind->count;
+    const Field *field = &kind->fields[k];
     text_add(to, "number %" PRIu32 ", %s, ", place, field->name);
     if (numbers != NULL)
-        text_add(to, "is %" PRIu32, numbers[(place - 1) % REMBILUNG_NUMBERS]);
+        text_add(to, "is %" PRIu32, numbers[k]);
     else
         text_add(to, "is outside its range");
     text_add(to, "; it may be %s", field->range);
@@ -40,33 +41,33 @@ static void say_wall(Text *to, uint32_t place) {
         text_add(to, "number 21, wall make: a single row needs a sound wall, 1");
 }
 
-static void say_file(Text *to, uint32_t refusal, uint32_t place) {
+static void say_file(Text *to, uint32_t refusal, uint32_t place, const Kind *kind) {
     if (refusal == 7)
-        text_add(to, "the job file goes on after its 25th number, from offset %" PRIu32, place);
+        text_add(to, "the job file goes on after its %dth number, from offset %" PRIu32, kind->count, place);
     else
         text_add(to, "the job file is damaged at offset %" PRIu32 ": the number there is missing, cut off, "
                      "not in its shortest form or above 4294967295", place);
 }
 
-void explain(Text *to, uint64_t result, const uint32_t *numbers) {
+void explain(Text *to, uint64_t result, const Kind *kind, const uint32_t *numbers) {
     uint32_t refusal = rembilung_refusal(result), place = rembilung_place(result);
     if (refusal <= 2)
         say_sheet(to, refusal, place);
     else if (refusal == 3)
-        say_range(to, place, numbers);
+        say_range(to, place, kind, numbers);
     else if (refusal == 4)
         say_contradiction(to, place);
     else if (refusal == 5)
         say_wall(to, place);
     else if (refusal <= 7)
-        say_file(to, refusal, place);
+        say_file(to, refusal, place, kind);
     else
         text_add(to, "a buffer is too short, and needs %" PRIu32, place);
 }
 
-void explain_line(FILE *to, uint64_t result, const uint32_t *numbers) {
+void explain_line(FILE *to, uint64_t result, const Kind *kind, const uint32_t *numbers) {
     Text words = {{0}, 0};
-    explain(&words, result, numbers);
+    explain(&words, result, kind, numbers);
     fprintf(to, "rembilung: %s\n", words.bytes);
 }
 

@@ -9,11 +9,12 @@
 #include "number.h"
 #include "text.h"
 
-/* A refusal: what, where, and what it may be. numbers may be null, where a job came as a file and no value can be shown. */
-void explain(Text *to, uint64_t result, const uint32_t *numbers);
+/* A refusal: what, where, and what it may be, in the words of the job's kind. numbers may be null, where a job came as a file
+ * and no value can be shown. */
+void explain(Text *to, uint64_t result, const Kind *kind, const uint32_t *numbers);
 
 /* A refusal on a line of its own. */
-void explain_line(FILE *to, uint64_t result, const uint32_t *numbers);
+void explain_line(FILE *to, uint64_t result, const Kind *kind, const uint32_t *numbers);
 
 /* A word of any bytes that read_number did not read. */
 void explain_number(Text *to, NumberKind kind, const char *bytes, size_t length, const Field *field);

@@ -26,7 +26,7 @@ static int refuse_count(size_t count) {
 static int refuse_entry(const SheetText *text, uint64_t result) {
     uint32_t refusal = rembilung_refusal(result), k = rembilung_place(result);
     if (refusal != 2 || k >= SHEET_ENTRIES)
-        return refuse(result, NULL);
+        return refuse(result, &scaffold, NULL);
     print_refused(refusal, k);
     say_word(&text->words[k], k);
     fprintf(stderr, "cannot stand there: %s\n", entry_rule);
@@ -67,7 +67,7 @@ int pack_sheet(Words words) {
 static int show(const Sheet *sheet) {
     uint64_t checked = check_sheet(sheet->bytes, sheet->length);
     if (rembilung_refused(checked))
-        return refuse(checked, NULL);
+        return refuse(checked, &scaffold, NULL);
     print_sheet_text(stdout, sheet->bytes);
     return flush_stdout() ? JUDGED : UNUSABLE;
 }

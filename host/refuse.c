@@ -12,8 +12,8 @@ void print_refused(uint32_t refusal, uint32_t place) {
     printf("refused %" PRIu32 " %" PRIu32 "\n", refusal, place);
 }
 
-int refuse(uint64_t result, const uint32_t *numbers) {
+int refuse(uint64_t result, const Kind *kind, const uint32_t *numbers) {
     print_refused(rembilung_refusal(result), rembilung_place(result));
-    explain_line(stderr, result, numbers);
+    explain_line(stderr, result, kind, numbers);
     return flush_stdout() ? REFUSED : UNUSABLE;
 }

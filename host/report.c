@@ -72,12 +72,13 @@ static void take_heights(Rest *rest, Report *report) {
     report->permitted = take_number(rest, '\n');
 }
 
-int read_report(const uint8_t *bytes, size_t length, Report *report) {
+int read_report(const uint8_t *bytes, size_t length, const Kind *kind, Report *report) {
     Rest rest = {(const char *)bytes, length, 1};
     memset(report, 0, sizeof *report);
     for (uint32_t check = 1; check <= CHECKS; check++)
         take_check(&rest, report, check);
-    take_heights(&rest, report);
+    if (kind->has_heights)
+        take_heights(&rest, report);
     take_word(&rest, "wind ");
     report->wind = take_number(&rest, ' ');
     report->moment = take_number(&rest, '\n');

@@ -9,9 +9,9 @@
 #include "rembilung.h"
 #include "status.h"
 
-static int show_numbers(const uint32_t *numbers) {
-    for (int k = 0; k < REMBILUNG_NUMBERS; k++)
-        printf("%4d  %s: %" PRIu32 "  [%s]\n", k + 1, fields[k].name, numbers[k], fields[k].range);
+static int show_numbers(const Kind *kind, const uint32_t *numbers) {
+    for (int k = 0; k < kind->count; k++)
+        printf("%4d  %s: %" PRIu32 "  [%s]\n", k + 1, kind->fields[k].name, numbers[k], kind->fields[k].range);
     return flush_stdout() ? JUDGED : UNUSABLE;
 }
 
@@ -21,8 +21,9 @@ static int show_file(const char *path) {
     size_t length;
     if (!read_file(path, file, &length))
         return UNUSABLE;
+    const Kind *kind = kind_of_file(file, length);
     uint64_t read = rembilung_read_job(file, length, numbers);
-    return rembilung_refused(read) ? refuse(read, NULL) : show_numbers(numbers);
+    return rembilung_refused(read) ? refuse(read, kind, NULL) : show_numbers(kind, numbers);
 }
 
 int show_job(Words words) {

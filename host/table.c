@@ -48,7 +48,7 @@ static void finish_refused(Table *table, const uint32_t *numbers, uint64_t resul
         csv_letters(answer->column, letters);
         text_add(&answer->words, "column %s: ", letters);
     }
-    explain(&answer->words, result, numbers);
+    explain(&answer->words, result, &scaffold, numbers);
     finish_row(table, answer);
 }
 
@@ -73,7 +73,7 @@ static void judge_numbers(Table *table, const uint32_t *numbers, Answer *answer)
         finish_refused(table, numbers, result, answer);
         return;
     }
-    if (read_report(bytes, (size_t)result, &report)) {
+    if (read_report(bytes, (size_t)result, &scaffold, &report)) {
         finish_judged(table, numbers, &report, answer);
         return;
     }

@@ -1,4 +1,4 @@
-/* What --help shows: the commands, their options, and the 25 numbers of a job. */
+/* What --help shows: the commands, their options, and the numbers of a job of each kind. */
 #include <stdio.h>
 
 #include "commands.h"
@@ -15,15 +15,15 @@ static const char usage[] =
     "       run show FILE\n"
     "\n"
     "  run               job J of document 01 under its sheet T\n"
-    "  run NUMBER..      a job of 25 whole numbers, in the order below\n"
+    "  run NUMBER..      a scaffold job of 25 whole numbers, or a formwork support of 13, the first 3, in the order below\n"
     "  run FILE          a job file (one that is called as a command is, such as depot, is given as ./depot)\n"
     "  --sheet FILE      a column sheet of one's own: 502 bytes, 251 entries in thousandths, low byte first\n"
     "                    (without it: the example sheet C, to be compared with the printed code)\n"
     "  --save FILE       once judged, also writes the job file; a file of that name is never written over\n"
     "\n"
-    "  run depot TABLE   a spreadsheet exported as CSV, one row per facade, '-' for standard input; the first row has\n"
-    "                    the names below, in any order, or there is no such row and the numbers stand in the order\n"
-    "                    below; cells are separated by commas, semicolons or tabs (docs/DEPOTS.md says more)\n"
+    "  run depot TABLE   a spreadsheet of scaffold jobs exported as CSV, one row per facade, '-' for standard input; the\n"
+    "                    first row has the 25 names below, in any order, or there is no such row and the numbers stand in\n"
+    "                    the order below; cells are separated by commas, semicolons or tabs (docs/DEPOTS.md says more)\n"
     "  --out FILE        the answers go there and not to standard output; a file of that name is never written over\n"
     "  --template        prints the row of names for a new table\n"
     "\n"
@@ -34,13 +34,17 @@ static const char usage[] =
     "\n"
     "Standard output has the report, or the line 'refused', number, place; standard error says why in words.\n"
     "Exit status: 0 judged, 1 refused, 2 bad usage or a file that cannot be read or written.\n"
-    "Of depot: 0 every row judged, 1 some row refused or unreadable, 2 bad usage, or a table or sheet that cannot be used.\n"
-    "\n"
-    "The 25 numbers:\n";
+    "Of depot: 0 every row judged, 1 some row refused or unreadable, 2 bad usage, or a table or sheet that cannot be used.\n";
+
+static void show_fields(const Kind *kind) {
+    printf("\nThe %d numbers of a %s:\n", kind->count, kind->name);
+    for (int k = 0; k < kind->count; k++)
+        printf("%4d  %s: %s\n", k + 1, kind->fields[k].name, kind->fields[k].range);
+}
 
 int show_usage(void) {
     fputs(usage, stdout);
-    for (int k = 0; k < REMBILUNG_NUMBERS; k++)
-        printf("%4d  %s: %s\n", k + 1, fields[k].name, fields[k].range);
+    show_fields(&scaffold);
+    show_fields(&support);
     return flush_stdout() ? JUDGED : UNUSABLE;
 }

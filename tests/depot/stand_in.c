@@ -4,10 +4,19 @@
 
 #include "rembilung.h"
 
+static uint64_t zeros(uint8_t *file, size_t file_len, uint64_t numbers) {
+    memset(file, 0, file_len);
+    return numbers;
+}
+
 uint64_t rembilung_write_job(const uint32_t numbers[REMBILUNG_NUMBERS], uint8_t *file, size_t file_len) {
     (void)numbers;
-    memset(file, 0, file_len);
-    return REMBILUNG_NUMBERS;
+    return zeros(file, file_len, REMBILUNG_NUMBERS);
+}
+
+uint64_t rembilung_write_support(const uint32_t numbers[REMBILUNG_SUPPORT_NUMBERS], uint8_t *file, size_t file_len) {
+    (void)numbers;
+    return zeros(file, file_len, REMBILUNG_SUPPORT_NUMBERS);
 }
 
 uint64_t rembilung_read_job(const uint8_t *file, size_t file_len, uint32_t numbers[REMBILUNG_NUMBERS]) {
