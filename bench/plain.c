@@ -1,5 +1,5 @@
-/* The whole call in plain C, from document 01 and request 1 of document 02 as docs/DECISIONS.md reads them: what the library
- * is measured against.
+/* The whole call in plain C, from document 01 and requests 1 and 2 of document 02 as docs/DECISIONS.md reads them: what the
+ * library is measured against.
  *
  * Whole numbers throughout, each formula cleared of its fractions. Lengths are in cm, as in the job. The stability height
  * is found by division, a quotient for each of the two pole checks, and not by a search: that is the shorter way. */
@@ -7,14 +7,18 @@
 
 #include <string.h>
 
-enum { NUMBERS = 25, ENTRIES = 251, SHEET_TENTHS = 2500, CHECKS = 11, TEXT_ROOM = 256 };
-enum { DOUBLE_ROW = 1, SINGLE_ROW = 2, OPEN = 1, HALF_CLOSED = 2, CLOSED_WALL = 1 };
-enum { STRENGTH = 205, ELASTICITY = 206000, HEIGHT_MOST = 6000, NO_HEIGHT = -1 };
+enum { NUMBERS = 25, SUPPORT_NUMBERS = 13, ENTRIES = 251, SHEET_TENTHS = 2500, CHECKS = 11, TEXT_ROOM = 256 };
+enum { DOUBLE_ROW = 1, SINGLE_ROW = 2, SUPPORT = 3, OPEN = 1, HALF_CLOSED = 2, CLOSED_WALL = 1 };
+enum { STRENGTH = 205, ELASTICITY = 206000, HEIGHT_MOST = 6000, NO_HEIGHT = -1, NO_LINE = -2 };
 
 typedef struct {
     uint32_t family, tube, spacing, bay, step, interval, height, boards, boarded, working, live_one, live_all, nets,
         structure, wind, height_factor, enclosure, shield, wall, thickness, make, tie_capacity, soil, ground, pad;
 } Job;
+
+typedef struct {
+    uint32_t kind, tube, step, overhang, bay, dead, live, wind, height_factor, shape, soil, ground, pad;
+} Support;
 
 typedef struct {
     uint32_t area, modulus, radius_tenths, inertia;
@@ -45,10 +49,16 @@ static const uint32_t soil_tenths[] = {4, 4, 4, 5, 10};
 static const uint32_t double_factor[3][2] = {{150, 170}, {155, 175}, {160, 180}};
 static const uint32_t single_factor[2] = {180, 200};
 
-/* Ranges by field; 3, 7 and 18 hang on another field and are widest here. */
-static const struct {
+typedef struct {
     uint32_t low, high;
-} ranges[NUMBERS] = {
+} Range;
+
+static const Range support_ranges[SUPPORT_NUMBERS] = {
+    {3, 3},    {1, 2},      {60, 200},  {0, 100},   {60, 200},  {0, 60000}, {0, 60000},
+    {0, 2000}, {100, 4000}, {0, 2000},  {1, 5},     {10, 2000}, {100, 10000}};
+
+/* Ranges by field; 3, 7 and 18 hang on another field and are widest here. */
+static const Range ranges[NUMBERS] = {
     {1, 2},    {1, 2},      {60, 155},  {60, 200},  {60, 200},
     {2, 3},    {1, 5000},   {1, 3},     {1, 10},    {1, 9},
     {0, 10000}, {0, 30000}, {0, 5000},  {50, 500},  {0, 2000},
@@ -96,10 +106,11 @@ static int read_number(const uint8_t *file, size_t length, size_t *at, uint32_t 
     return 0;
 }
 
-/* Refusals 6 and 7, or 0. */
+/* Refusals 6 and 7, or 0; the first number says how many there are. */
 static uint64_t read_file(const uint8_t *file, size_t length, uint32_t *numbers) {
     size_t at = 0;
-    for (int k = 0; k < NUMBERS; k++) {
+    numbers[0] = 0;
+    for (int k = 0; k < (numbers[0] == SUPPORT ? SUPPORT_NUMBERS : NUMBERS); k++) {
         size_t first = at;
         if (!read_number(file, length, &at, &numbers[k]))
             return refuse(6, first);
@@ -146,10 +157,23 @@ static uint64_t examine_job(const uint32_t *numbers, const Job *j) {
     return 0;
 }
 
-/* Wind pressure in N/m2; the shape in 100,000ths. */
-static uint64_t wind_pressure(const Job *j) {
-    uint64_t shape = (uint64_t)j->shield * (j->enclosure == OPEN ? 100 : j->wall == CLOSED_WALL ? 120 : 156);
-    return divide_up(7 * j->height_factor * shape * j->wind, 1000000000);
+/* Refusal 3, or 0. */
+static uint64_t examine_support(const uint32_t *numbers) {
+    for (int k = 0; k < SUPPORT_NUMBERS; k++)
+        if (!between(numbers[k], support_ranges[k].low, support_ranges[k].high))
+            return refuse(3, (uint64_t)k + 1);
+    return 0;
+}
+
+/* The scaffold's shape in 100,000ths. */
+static uint64_t shape_of(const Job *j) {
+    return (uint64_t)j->shield * (j->enclosure == OPEN ? 100 : j->wall == CLOSED_WALL ? 120 : 156);
+}
+
+/* Pressure in N/m2 from a shape in 100,000ths, and the moment that it makes in the pole. */
+static void blow(uint64_t height_factor, uint64_t shape, uint64_t wind, uint64_t bay, uint64_t step, Judgement *g) {
+    g->pressure = divide_up(7 * height_factor * shape * wind, 1000000000);
+    g->moment = divide_up(119 * g->pressure * bay * step * step, 1000000);
 }
 
 static uint64_t length_factor(const Job *j) {
@@ -159,8 +183,7 @@ static uint64_t length_factor(const Job *j) {
 }
 
 /* Up to the sheet's end to a tenth, beyond it to a whole number. */
-static uint64_t slenderness_tenths(const Job *j, const Tube *tube) {
-    uint64_t above = 1155 * length_factor(j) * j->step, below = 1000 * tube->radius_tenths;
+static uint64_t rounded_tenths(uint64_t above, uint64_t below) {
     uint64_t tenths = divide_up(10 * above, below);
     return tenths <= SHEET_TENTHS ? tenths : 10 * divide_up(above, below);
 }
@@ -216,21 +239,26 @@ static int wind_due(const Job *j) {
     return j->wind > 350 || j->enclosure != OPEN || j->interval * j->step * 3 * j->bay > 300000;
 }
 
-/* Checks 6, 7, 8, 10 and 11; the stability factor goes with the judgement's slenderness. */
-static void check_pole(const Job *j, const Tube *tube, const Loads *loads, Factor phi, Judgement *g) {
+static void check_slenderness(const Job *j, const Tube *tube, Judgement *g) {
     uint64_t length = length_factor(j) * j->step;
     set(g, 6, divide_up(length, tube->radius_tenths), length <= (j->family == DOUBLE_ROW ? 210 : 230) * tube->radius_tenths);
-    uint64_t dead = loads->weight * j->height + loads->fittings;
-    uint64_t force = divide_up(12 * dead + 14 * loads->live, 200000);
-    uint64_t with_wind = divide_up(120 * dead + 119 * loads->live, 2000000);
+}
+
+/* What the ground under the pad bears, in hundredths of a newton. */
+static uint64_t ground_bears(uint32_t soil, uint64_t ground, uint64_t pad) {
+    return soil_tenths[soil - 1] * ground * pad;
+}
+
+/* Checks 7, 8, 10 and 11 of a pole's dead and live load; the stability factor goes with the judgement's slenderness. */
+static void check_force(uint64_t dead, uint64_t live, const Tube *tube, Factor phi, uint64_t bears, Judgement *g) {
+    uint64_t force = divide_up(12 * dead + 14 * live, 200000);
+    uint64_t with_wind = divide_up(120 * dead + 119 * live, 2000000);
     uint64_t area = phi.above * tube->area;
     set(g, 7, force, force * phi.below <= area * STRENGTH);
     set(g, 8, with_wind,
         with_wind * phi.below * tube->modulus + g->moment * area <= STRENGTH * area * tube->modulus);
-    if (!wind_due(j))
-        g->verdict[7] = 0;
     set(g, 10, force, force <= 40000);
-    set(g, 11, force, 100 * force <= (uint64_t)soil_tenths[j->soil - 1] * j->ground * j->pad);
+    set(g, 11, force, 100 * force <= bears);
 }
 
 static void check_tie(const Job *j, Judgement *g) {
@@ -270,16 +298,29 @@ static int permitted_height(const Job *j, int stability) {
 static void judge(const uint8_t *sheet, const Job *j, Judgement *g) {
     const Tube *tube = &tubes[j->tube - 1];
     Loads loads = loads_of(j);
-    g->pressure = wind_pressure(j);
-    g->moment = divide_up(119 * g->pressure * j->bay * j->step * j->step, 1000000);
-    g->slenderness_tenths = slenderness_tenths(j, tube);
+    blow(j->height_factor, shape_of(j), j->wind, j->bay, j->step, g);
+    g->slenderness_tenths = rounded_tenths(1155 * length_factor(j) * j->step, 1000 * tube->radius_tenths);
     Factor phi = stability_factor(sheet, g->slenderness_tenths);
     check_transom(j, tube, g);
     check_ledger(j, tube, g);
-    check_pole(j, tube, &loads, phi, g);
+    check_slenderness(j, tube, g);
+    check_force(loads.weight * j->height + loads.fittings, loads.live, tube, phi, ground_bears(j->soil, j->ground, j->pad), g);
+    if (!wind_due(j))
+        g->verdict[7] = 0;
     check_tie(j, g);
     g->stability = stability_height(j, tube, &loads, phi, g->moment);
     g->permitted = permitted_height(j, g->stability);
+}
+
+/* Clause 5.6: the checks of a pole's force alone. */
+static void judge_support(const uint8_t *sheet, const Support *s, Judgement *g) {
+    const Tube *tube = &tubes[s->tube - 1];
+    memset(g, 0, sizeof *g);
+    g->stability = NO_LINE;
+    blow(s->height_factor, 100 * (uint64_t)s->shape, s->wind, s->bay, s->step, g);
+    g->slenderness_tenths = rounded_tenths(100 * (s->step + 2 * s->overhang), tube->radius_tenths);
+    Factor phi = stability_factor(sheet, g->slenderness_tenths);
+    check_force(20000 * (uint64_t)s->dead, 20000 * (uint64_t)s->live, tube, phi, ground_bears(s->soil, s->ground, s->pad), g);
 }
 
 static char *put_word(char *to, const char *word) {
@@ -307,6 +348,14 @@ static char *put_pair(char *to, const char *word, uint64_t number, char end) {
     return to;
 }
 
+static char *put_heights(char *to, const Judgement *g) {
+    if (g->stability == NO_LINE)
+        return to;
+    if (g->stability == NO_HEIGHT)
+        return put_word(to, "height none\n");
+    return put_pair(put_pair(to, "height ", (uint64_t)g->stability, ' '), "", (uint64_t)g->permitted, '\n');
+}
+
 static size_t write_text(const Judgement *g, char *text) {
     char *to = text;
     for (int k = 0; k < CHECKS; k++) {
@@ -314,34 +363,43 @@ static size_t write_text(const Judgement *g, char *text) {
         to = put_pair(to, "", (uint64_t)g->verdict[k], ' ');
         to = put_pair(to, "", g->figure[k], '\n');
     }
-    if (g->stability == NO_HEIGHT) {
-        to = put_word(to, "height none\n");
-    } else {
-        to = put_pair(to, "height ", (uint64_t)g->stability, ' ');
-        to = put_pair(to, "", (uint64_t)g->permitted, '\n');
-    }
+    to = put_heights(to, g);
     to = put_pair(to, "wind ", g->pressure, ' ');
     to = put_pair(to, "", g->moment, '\n');
     to = put_pair(to, "column ", g->slenderness_tenths, '\n');
     return (size_t)(to - text);
 }
 
+/* Refusals 3, 4 and 5, or 0 and the judgement. */
+static uint64_t judge_numbers(const uint8_t *sheet, const uint32_t *numbers, Judgement *g) {
+    Job job;
+    Support support;
+    if (numbers[0] == SUPPORT) {
+        memcpy(&support, numbers, sizeof support);
+        uint64_t refusal = examine_support(numbers);
+        if (refusal == 0)
+            judge_support(sheet, &support, g);
+        return refusal;
+    }
+    memcpy(&job, numbers, sizeof job);
+    uint64_t refusal = examine_job(numbers, &job);
+    if (refusal == 0)
+        judge(sheet, &job, g);
+    return refusal;
+}
+
 uint64_t plain_verdict(const uint8_t *sheet, size_t sheet_len, const uint8_t *file, size_t file_len, uint8_t *report,
                        size_t report_len) {
     uint32_t numbers[NUMBERS];
-    Job job;
     Judgement judgement;
     char text[TEXT_ROOM];
     uint64_t refusal = examine_sheet(sheet, sheet_len);
     if (refusal == 0)
         refusal = read_file(file, file_len, numbers);
+    if (refusal == 0)
+        refusal = judge_numbers(sheet, numbers, &judgement);
     if (refusal != 0)
         return refusal;
-    memcpy(&job, numbers, sizeof job);
-    refusal = examine_job(numbers, &job);
-    if (refusal != 0)
-        return refusal;
-    judge(sheet, &job, &judgement);
     size_t length = write_text(&judgement, text);
     if (length > report_len)
         return refuse(8, length);
