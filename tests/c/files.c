@@ -34,70 +34,72 @@ static void refused_as(Bytes file, uint32_t refusal, uint32_t place) {
 }
 
 /* How many numbers of the file end within the length. */
-static int whole_numbers(const File *file, size_t length) {
-    int count = 0;
-    while (count < REMBILUNG_NUMBERS && file->offset[count + 1] <= length)
+static size_t whole_numbers(const File *file, size_t length) {
+    size_t count = 0;
+    while (count < file->count && file->offset[count + 1] <= length)
         count++;
     return count;
 }
 
-static void cut(void) {
-    File j = file_of(job_j);
-    for (size_t length = 0; length < file_bytes(&j).length; length++) {
-        case_begins("J's file cut to %zu bytes", length);
-        refused_as((Bytes){j.bytes, length}, 6, (uint32_t)j.offset[whole_numbers(&j, length)]);
+static void cut(const Judged *job) {
+    File file = file_of(job->kind, job->numbers);
+    for (size_t length = 0; length < file_bytes(&file).length; length++) {
+        case_begins("the file of %s cut to %zu bytes", job->name, length);
+        refused_as((Bytes){file.bytes, length}, 6, (uint32_t)file.offset[whole_numbers(&file, length)]);
     }
 }
 
 /* One byte to many behind, of several kinds: the first is named whatever it is. */
-static void extended(uint8_t with) {
+static void extended(const Judged *job, uint8_t with) {
     uint8_t bytes[1024];
-    File j = file_of(job_j);
-    Bytes whole = file_bytes(&j);
+    File file = file_of(job->kind, job->numbers);
+    Bytes whole = file_bytes(&file);
     memset(bytes, with, sizeof bytes);
     memcpy(bytes, whole.at, whole.length);
     for (size_t more = 1; more <= sizeof bytes - whole.length; more += more < 8 ? 1 : 97) {
-        case_begins("J's file with %zu bytes %02x (hexadecimal) behind it", more, with);
+        case_begins("the file of %s with %zu bytes %02x (hexadecimal) behind it", job->name, more, with);
         refused_as((Bytes){bytes, whole.length + more}, 7, (uint32_t)whole.length);
     }
 }
 
-/* J's file with its number k, from 0, replaced. */
-static size_t replaced(int k, const Damage *damage, uint8_t *to) {
-    File j = file_of(job_j);
-    size_t front = j.offset[k], back = file_bytes(&j).length - j.offset[k + 1];
-    memcpy(to, j.bytes, front);
+/* The file with its number k, from 0, replaced. */
+static size_t replaced(const File *file, size_t k, const Damage *damage, uint8_t *to) {
+    size_t front = file->offset[k], back = file_bytes(file).length - file->offset[k + 1];
+    memcpy(to, file->bytes, front);
     memcpy(to + front, damage->bytes, damage->length);
-    memcpy(to + front + damage->length, j.bytes + j.offset[k + 1], back);
+    memcpy(to + front + damage->length, file->bytes + file->offset[k + 1], back);
     return front + damage->length + back;
 }
 
-static void damaged(int k, const Damage *damage) {
+static void damaged(const Judged *job, size_t k, const Damage *damage) {
     uint8_t bytes[FILE_ROOM];
-    size_t length = replaced(k, damage, bytes);
-    File j = file_of(job_j);
-    case_begins("J's file with number %d as %s (hexadecimal)", k + 1, damage->what);
-    if (damage->is_number)
-        refused_as((Bytes){bytes, length}, 3, (uint32_t)k + 1);
+    File file = file_of(job->kind, job->numbers);
+    size_t length = replaced(&file, k, damage, bytes);
+    case_begins("the file of %s with number %zu as %s (hexadecimal)", job->name, k + 1, damage->what);
+    if (!damage->is_number)
+        refused_as((Bytes){bytes, length}, 6, (uint32_t)file.offset[k]);
+    else if (k == 0 && job->kind == &support)
+        /* Its first number is no 3 any more, and of 25 numbers most are missing. */
+        refused_as((Bytes){bytes, length}, 6, (uint32_t)length);
     else
-        refused_as((Bytes){bytes, length}, 6, (uint32_t)j.offset[k]);
+        refused_as((Bytes){bytes, length}, 3, (uint32_t)k + 1);
 }
 
-static void damaged_at(int k) {
+static void damaged_at(const Judged *job, size_t k) {
     for (size_t d = 0; d < sizeof damages / sizeof *damages; d++)
-        damaged(k, &damages[d]);
+        damaged(job, k, &damages[d]);
 }
 
-static void every_place(void) {
-    for (int k = 0; k < REMBILUNG_NUMBERS; k++)
-        damaged_at(k);
+static void every_way(Judged job) {
+    static const uint8_t behind[] = {0x00, 0x01, 0x80, 0xFF};
+    cut(&job);
+    for (size_t k = 0; k < sizeof behind; k++)
+        extended(&job, behind[k]);
+    for (size_t k = 0; k < job.kind->count; k++)
+        damaged_at(&job, k);
 }
 
 void test_files(void) {
-    cut();
-    extended(0x00);
-    extended(0x01);
-    extended(0x80);
-    extended(0xFF);
-    every_place();
+    every_way(judged_j());
+    every_way(judged_support());
 }

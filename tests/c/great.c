@@ -23,7 +23,7 @@ static void *zeros(size_t length) {
 
 static void sheet_of_length(size_t length, uint32_t place) {
     uint8_t report[REMBILUNG_REPORT_MOST];
-    File j = file_of(job_j);
+    File j = file_of(&scaffold, job_j);
     Sheet t = sheet_t();
     uint8_t *sheet = zeros(length);
     memcpy(sheet, t.bytes, sizeof t.bytes);
@@ -32,15 +32,15 @@ static void sheet_of_length(size_t length, uint32_t place) {
     munmap(sheet, length);
 }
 
-static void long_file(void) {
+static void long_file(Judged job) {
     uint8_t report[REMBILUNG_REPORT_MOST];
     uint32_t numbers[REMBILUNG_NUMBERS];
-    File j = file_of(job_j);
+    File short_file = file_of(job.kind, job.numbers);
     Sheet t = sheet_t();
-    size_t own = file_bytes(&j).length, length = GIB4 + own;
+    size_t own = file_bytes(&short_file).length, length = GIB4 + own;
     uint8_t *file = zeros(length);
-    memcpy(file, j.bytes, own);
-    case_begins("J's file with 4 GiB of zeros behind it");
+    memcpy(file, short_file.bytes, own);
+    case_begins("the file of %s with 4 GiB of zeros behind it", job.name);
     Answer due = refused(7, (uint32_t)own);
     result_is(rembilung_verdict(t.bytes, sizeof t.bytes, file, length, report, sizeof report), due);
     result_is(rembilung_read_job(file, length, numbers), due);
@@ -56,25 +56,31 @@ static void begins_with(const uint8_t *buffer, Bytes due) {
         differs("a byte beyond what is due was written");
 }
 
-static void long_report(void) {
-    File j = file_of(job_j);
+static void long_report(Judged job) {
+    File file = file_of(job.kind, job.numbers);
     Sheet t = sheet_t();
     uint8_t *report = zeros(GIB4 + 8192);
-    case_begins("J into a report buffer of 4 GiB and 3 bytes");
-    result_is(rembilung_verdict(t.bytes, sizeof t.bytes, j.bytes, file_bytes(&j).length, report, GIB4 + 3),
-              gives((uint32_t)report_j().length, report_j()));
-    begins_with(report, report_j());
+    case_begins("%s into a report buffer of 4 GiB and 3 bytes", job.name);
+    result_is(rembilung_verdict(t.bytes, sizeof t.bytes, file.bytes, file_bytes(&file).length, report, GIB4 + 3),
+              gives((uint32_t)job.report.length, job.report));
+    begins_with(report, job.report);
     munmap(report, GIB4 + 8192);
 }
 
-static void long_file_buffer(void) {
-    File j = file_of(job_j);
-    Bytes own = file_bytes(&j);
+static void long_file_buffer(Judged job) {
+    File file = file_of(job.kind, job.numbers);
+    Bytes own = file_bytes(&file);
     uint8_t *buffer = zeros(GIB4 + 8192);
-    case_begins("J written into a file buffer of 4 GiB and 3 bytes");
-    result_is(rembilung_write_job(job_j, buffer, GIB4 + 3), gives((uint32_t)own.length, own));
+    case_begins("%s written into a file buffer of 4 GiB and 3 bytes", job.name);
+    result_is(job.kind->write(job.numbers, buffer, GIB4 + 3), gives((uint32_t)own.length, own));
     begins_with(buffer, own);
     munmap(buffer, GIB4 + 8192);
+}
+
+static void great_lengths_of(Judged job) {
+    long_file(job);
+    long_report(job);
+    long_file_buffer(job);
 }
 
 void test_great_lengths(void) {
@@ -82,7 +88,6 @@ void test_great_lengths(void) {
     sheet_of_length(GIB4 - 1, 4294967295);
     sheet_of_length(GIB4, 4294967295);
     sheet_of_length(GIB4 + REMBILUNG_SHEET_BYTES, 4294967295);
-    long_file();
-    long_report();
-    long_file_buffer();
+    great_lengths_of(judged_j());
+    great_lengths_of(judged_support());
 }

@@ -11,6 +11,10 @@
 #include "check.h"
 #include "rembilung.h"
 
+const Kind scaffold = {REMBILUNG_NUMBERS, REMBILUNG_FILE_MOST, REMBILUNG_REPORT_MOST, "write_job", rembilung_write_job};
+const Kind support = {REMBILUNG_SUPPORT_NUMBERS, REMBILUNG_SUPPORT_FILE_MOST, REMBILUNG_SUPPORT_REPORT_MOST, "write_support",
+                      rembilung_write_support};
+
 /* Four ways to lend: against the protected page before or behind, and with two marks, so that no written byte passes for one. */
 enum { WAYS = 4 };
 
@@ -71,6 +75,10 @@ Answer gives(uint32_t length, Bytes written) {
     return (Answer){0, length, written};
 }
 
+Answer due_in(Answer due, size_t length) {
+    return due.refusal == 0 && length < due.place ? refused(8, due.place) : due;
+}
+
 void result_is(uint64_t result, Answer due) {
     if (result != due.refusal * UINT64_C(4294967296) + due.place)
         differs("returned refusal %" PRIu64 " with %" PRIu64 ", and refusal %" PRIu32 " with %" PRIu32 " is due",
@@ -93,12 +101,12 @@ void expect_verdict(Bytes sheet, Bytes file, size_t report_length, Answer due) {
     }
 }
 
-void expect_write(const uint32_t *numbers, size_t file_length, Answer due) {
-    Bytes given = {numbers, REMBILUNG_NUMBERS * sizeof *numbers};
+void expect_write(const Kind *kind, const uint32_t *numbers, size_t file_length, Answer due) {
+    Bytes given = {numbers, kind->count * sizeof *numbers};
     for (int way = 0; way < WAYS; way++) {
         lend(&numbers_pen, given, given.length, way);
         lend(&file_pen, (Bytes){NULL, 0}, file_length, way);
-        result_is(rembilung_write_job((const uint32_t *)numbers_pen.at, file_pen.at, file_length), due);
+        result_is(kind->write((const uint32_t *)numbers_pen.at, file_pen.at, file_length), due);
         holds(&numbers_pen, given);
         holds(&file_pen, due.written);
     }

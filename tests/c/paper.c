@@ -1,11 +1,17 @@
-/* What the tests take from the papers by themselves: job J and its report, sheet T, and the groups of a job file. */
+/* What the tests take from the papers by themselves: job J, a support, their reports, sheet T, and the groups of a job file. */
 #include "paper.h"
 
 #include <stdio.h>
 #include <stdlib.h>
+#include <string.h>
 
 const uint32_t job_j[REMBILUNG_NUMBERS] = {1,   1,   105,  150, 180, 2, 3000, 3,   4,    2, 3000, 5000, 0,
                                            300, 300, 1000, 1,   200, 1, 240,  1,   8000, 4, 200,  2000};
+
+const uint32_t one_support[REMBILUNG_SUPPORT_NUMBERS] = {3, 1, 150, 30, 100, 9000, 6000, 300, 1000, 400, 4, 200, 2000};
+static const char one_support_report[] =
+    "1 0 0\n2 0 0\n3 0 0\n4 0 0\n5 0 0\n6 0 0\n7 1 19200\n8 1 17940\n9 0 0\n10 1 19200\n11 1 19200\nwind 84 22491\n"
+    "column 1330\n";
 
 static uint8_t text_j[300];
 static size_t length_j;
@@ -19,15 +25,30 @@ static size_t put_groups(uint32_t number, uint8_t *to) {
     return count + 1;
 }
 
-File file_of(const uint32_t *numbers) {
-    File file = {{0}, {0}};
-    for (int k = 0; k < REMBILUNG_NUMBERS; k++)
+Judged judged_j(void) {
+    return (Judged){"J", &scaffold, job_j, report_j()};
+}
+
+Judged judged_support(void) {
+    return (Judged){"the support", &support, one_support, {one_support_report, strlen(one_support_report)}};
+}
+
+File file_of(const Kind *kind, const uint32_t *numbers) {
+    File file = {{0}, kind->count, {0}};
+    for (size_t k = 0; k < kind->count; k++)
         file.offset[k + 1] = file.offset[k] + put_groups(numbers[k], file.bytes + file.offset[k]);
     return file;
 }
 
 Bytes file_bytes(const File *file) {
-    return (Bytes){file->bytes, file->offset[REMBILUNG_NUMBERS]};
+    return (Bytes){file->bytes, file->offset[file->count]};
+}
+
+Answer file_answer(const File *file, uint32_t first, Answer due) {
+    size_t asked = first == 3 ? support.count : scaffold.count;
+    if (asked < file->count)
+        return refused(7, (uint32_t)file->offset[asked]);
+    return asked > file->count ? refused(6, (uint32_t)file_bytes(file).length) : due;
 }
 
 void set_entry(Sheet *sheet, int k, uint32_t thousandths) {

@@ -7,6 +7,7 @@ void test_sheets(void);
 void test_files(void);
 void test_ranges(void);
 void test_order(void);
+void test_supports(void);
 void test_great_lengths(void);
 
 #endif

@@ -3,7 +3,7 @@
 #include "paper.h"
 #include "parts.h"
 
-/* A field's range in a family and an enclosure, as document 01 has it. */
+/* A field's range in a family and an enclosure, as document 01 has it, or in a support, whose first number is 3. */
 typedef struct {
     uint32_t family, enclosure;
     int field;
@@ -18,16 +18,22 @@ static const Range ranges[] = {
     {1, 3, 18, 1, 1000},   {1, 1, 19, 1, 2},        {1, 1, 20, 0, 2000},   {1, 1, 21, 1, 3},       {1, 1, 22, 8000, 100000},
     {1, 1, 23, 1, 5},      {1, 1, 24, 10, 2000},    {1, 1, 25, 100, 10000}, {2, 1, 4, 60, 200},    {2, 3, 18, 1, 1000},
     {1, 1, 3, 105, 105},   {1, 1, 3, 130, 130},     {1, 1, 3, 155, 155},
+    {3, 0, 1, 3, 3},       {3, 0, 2, 1, 2},         {3, 0, 3, 60, 200},    {3, 0, 4, 0, 100},      {3, 0, 5, 60, 200},
+    {3, 0, 6, 0, 60000},   {3, 0, 7, 0, 60000},     {3, 0, 8, 0, 2000},    {3, 0, 9, 100, 4000},   {3, 0, 10, 0, 2000},
+    {3, 0, 11, 1, 5},      {3, 0, 12, 10, 2000},    {3, 0, 13, 100, 10000},
 };
 
 typedef struct {
+    const Kind *kind;
     uint32_t numbers[REMBILUNG_NUMBERS];
 } Job;
 
 /* A job that stays accepted when any one field goes to an end of its range. */
 static Job plain(uint32_t family, uint32_t enclosure) {
-    return (Job){{family, 1, 105, 100, 100, 2, 2000, 1, 10, 1, 0, 30000, 0,
-                  100, 200, 1000, enclosure, 500, 1, 240, 1, 8000, 1, 100, 1000}};
+    if (family == 3)
+        return (Job){&support, {3, 1, 100, 50, 100, 1000, 1000, 200, 1000, 500, 1, 100, 1000}};
+    return (Job){&scaffold, {family, 1, 105, 100, 100, 2, 2000, 1, 10, 1, 0, 30000, 0,
+                             100, 200, 1000, enclosure, 500, 1, 240, 1, 8000, 1, 100, 1000}};
 }
 
 static Job with(Job job, int field, uint32_t value) {
@@ -37,19 +43,21 @@ static Job with(Job job, int field, uint32_t value) {
 
 static void job_refused(Job job, uint32_t refusal, uint32_t place) {
     Sheet t = sheet_t();
-    File file = file_of(job.numbers);
-    expect_write(job.numbers, REMBILUNG_FILE_MOST, refused(refusal, place));
-    expect_read(file_bytes(&file), refused(refusal, place));
-    expect_verdict(sheet_bytes(&t), file_bytes(&file), REMBILUNG_REPORT_MOST, refused(refusal, place));
+    File file = file_of(job.kind, job.numbers);
+    /* The first number also says as what a file is read. */
+    Answer due = file_answer(&file, job.numbers[0], refused(refusal, place));
+    expect_write(job.kind, job.numbers, job.kind->file_most, refused(refusal, place));
+    expect_read(file_bytes(&file), due);
+    expect_verdict(sheet_bytes(&t), file_bytes(&file), REMBILUNG_REPORT_MOST, due);
 }
 
 static void job_accepted(Job job) {
     uint8_t report[REMBILUNG_REPORT_MOST];
     Sheet t = sheet_t();
-    File file = file_of(job.numbers);
-    Bytes bytes = file_bytes(&file), numbers = {job.numbers, sizeof job.numbers};
-    expect_write(job.numbers, bytes.length, gives((uint32_t)bytes.length, bytes));
-    expect_read(bytes, gives(REMBILUNG_NUMBERS, numbers));
+    File file = file_of(job.kind, job.numbers);
+    Bytes bytes = file_bytes(&file), numbers = {job.numbers, job.kind->count * sizeof *job.numbers};
+    expect_write(job.kind, job.numbers, bytes.length, gives((uint32_t)bytes.length, bytes));
+    expect_read(bytes, gives((uint32_t)job.kind->count, numbers));
     expect_judged(sheet_bytes(&t), bytes, report);
 }
 
@@ -78,14 +86,14 @@ static void ends_of(const Range *range) {
 }
 
 /* Two fields are outside: the lower is named, and the family and the enclosure before what hangs on them. */
-static void lowest_named(int lower, int higher) {
-    case_begins("fields %d and %d both at 4294967295", lower, higher);
-    job_refused(with(with(plain(1, 1), lower, UINT32_MAX), higher, UINT32_MAX), 3, (uint32_t)lower);
+static void lowest_named(Job job, int lower, int higher) {
+    case_begins("of %zu numbers fields %d and %d both at 4294967295", job.kind->count, lower, higher);
+    job_refused(with(with(job, lower, UINT32_MAX), higher, UINT32_MAX), 3, (uint32_t)lower);
 }
 
-static void lowest_of_neighbours(void) {
-    for (int field = 1; field < REMBILUNG_NUMBERS; field++)
-        lowest_named(field, field + 1);
+static void lowest_of_neighbours(Job job) {
+    for (int field = 1; field < (int)job.kind->count; field++)
+        lowest_named(job, field, field + 1);
 }
 
 static void contradictions(void) {
@@ -122,21 +130,26 @@ static void walls(void) {
 }
 
 /* Every number at its longest, so the file has the greatest length that the header gives. */
-static void longest_file(void) {
-    static const Job longest = {{1, 2, 155, 200, 200, 3, 5000, 3, 10, 9, 10000, 30000, 5000,
-                                 500, 2000, 4000, 1, 2000, 2, 2000, 3, 100000, 5, 2000, 10000}};
-    File file = file_of(longest.numbers);
-    case_begins("the job with the longest file");
+static void longest_file(Job longest) {
+    File file = file_of(longest.kind, longest.numbers);
+    case_begins("the job of %zu numbers with the longest file", longest.kind->count);
     job_accepted(longest);
-    if (file_bytes(&file).length != REMBILUNG_FILE_MOST)
-        differs("its file has %zu bytes, and the header's greatest is %d", file_bytes(&file).length, REMBILUNG_FILE_MOST);
+    if (file_bytes(&file).length != longest.kind->file_most)
+        differs("its file has %zu bytes, and the header's greatest is %zu", file_bytes(&file).length, longest.kind->file_most);
+}
+
+static void longest_files(void) {
+    longest_file((Job){&scaffold, {1, 2, 155, 200, 200, 3, 5000, 3, 10, 9, 10000, 30000, 5000,
+                                   500, 2000, 4000, 1, 2000, 2, 2000, 3, 100000, 5, 2000, 10000}});
+    longest_file((Job){&support, {3, 2, 200, 100, 200, 60000, 60000, 2000, 4000, 2000, 5, 2000, 10000}});
 }
 
 void test_ranges(void) {
     for (size_t k = 0; k < sizeof ranges / sizeof *ranges; k++)
         ends_of(&ranges[k]);
-    lowest_of_neighbours();
+    lowest_of_neighbours(plain(1, 1));
+    lowest_of_neighbours(plain(3, 0));
     contradictions();
     walls();
-    longest_file();
+    longest_files();
 }

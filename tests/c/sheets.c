@@ -8,7 +8,7 @@
 enum { LAST = 250, LONGEST = 1100 };
 
 static void judged_as(Bytes sheet, Answer due) {
-    File j = file_of(job_j);
+    File j = file_of(&scaffold, job_j);
     expect_verdict(sheet, file_bytes(&j), REMBILUNG_REPORT_MOST, due);
 }
 
@@ -63,7 +63,7 @@ static Sheet level(uint32_t thousandths, uint32_t last) {
 static void level_stands(uint32_t thousandths, uint32_t last) {
     uint8_t report[REMBILUNG_REPORT_MOST];
     Sheet sheet = level(thousandths, last);
-    File j = file_of(job_j);
+    File j = file_of(&scaffold, job_j);
     case_begins("sheet of %u throughout, last entry %u", (unsigned)thousandths, (unsigned)last);
     expect_judged(sheet_bytes(&sheet), file_bytes(&j), report);
 }

@@ -1,7 +1,7 @@
 """What the tests share: sheets T and C, the bytes of sheets and job files, and the cases that requests of document 02 came with.
 
 A line `sheet;NAME;ENTRIES` of request-NN.txt is a column sheet for the cases of that file. Every other line that is no comment
-is a case: the word of its call, and the parts after it.
+is a case: the word of its call, and the parts after it. A part of no bytes or no numbers is '-'.
 """
 import collections
 import pathlib
@@ -10,6 +10,13 @@ import re
 HERE = pathlib.Path(__file__).resolve().parent
 ENTRIES = 251
 ENTRY_MOST = 65535
+NUMBER_MOST = 2**32 - 1
+# How many numbers a scaffold job has, and a support, whose first is 3.
+NUMBERS, SUPPORT_NUMBERS, SUPPORT = 25, 13, 3
+REFUSED = r"refused [1-9][0-9]? [0-9]{1,10}"
+REPORT = r"[0-9a-z]+( [0-9a-z]+)+(\|[0-9a-z]+( [0-9a-z]+)+)+"
+HEXADECIMAL = r"-|([0-9a-f]{2})+"
+NUMBER_ROW = r"[0-9]{1,10}( [0-9]{1,10})*"
 # Sheet T of document 01.
 T = [max(1000 - 4 * k, 150) for k in range(ENTRIES)]
 
@@ -17,6 +24,12 @@ T = [max(1000 - 4 * k, 150) for k in range(ENTRIES)]
 Case = collections.namedtuple("Case", "file line word parts sheets")
 # A case of the whole call: the name of its sheet and that sheet's bytes, the numbers of its job file, and the answer as text.
 Verdict = collections.namedtuple("Verdict", "file line sheet_name sheet numbers answer")
+# A case of writing a job file: its numbers, how long the buffer is, and the answer as text.
+Writing = collections.namedtuple("Writing", "file line numbers room answer")
+# A case of reading one: its bytes, and the answer as text.
+Reading = collections.namedtuple("Reading", "file line data answer")
+# A case of the whole call on a file's own bytes.
+FileVerdict = collections.namedtuple("FileVerdict", "file line sheet data room answer")
 
 
 class Fault(Exception):
@@ -30,6 +43,11 @@ def groups(number):
 
 def job_file(numbers):
     return b"".join(groups(number) for number in numbers)
+
+
+def count_after(first):
+    """How many numbers a job file has that begins with this one."""
+    return SUPPORT_NUMBERS if first == SUPPORT else NUMBERS
 
 
 def packed(entries):
@@ -72,13 +90,22 @@ def run_of(word):
     return [int(found[1])] * int(found[2] or 1)
 
 
+def sheet_bytes(text):
+    """The bytes of entries, and of the byte more that a sheet of an odd length has."""
+    entries, more, byte = text.partition(" and the byte ")
+    if more and not (re.fullmatch(r"[0-9]{1,3}", byte) and int(byte) < 256):
+        raise Fault(f"'{byte}' is no byte")
+    words = [] if entries == "-" else entries.split(" ")
+    return packed(entry for word in words for entry in run_of(word)) + (bytes([int(byte)]) if more else b"")
+
+
 def add_sheet(sheets, parts):
     if len(parts) != 2:
         raise Fault(f"a sheet is sheet;NAME;ENTRIES, and this line has {len(parts) + 1} parts")
     name, text = parts
     if name in sheets:
         raise Fault(f"sheet {name} is given twice")
-    sheets[name] = packed(entry for word in text.split(" ") for entry in run_of(word))
+    sheets[name] = sheet_bytes(text)
 
 
 def cases_of(path):
@@ -105,18 +132,81 @@ def fault_in(case, words):
     return Fault(f"tests/vectors/{case.file}:{case.line}: {words}")
 
 
-def verdict_of(case):
-    """The case of a line verdict;SHEET;NUMBERS;ANSWER."""
-    if len(case.parts) != 3:
-        raise fault_in(case, f"verdict;SHEET;NUMBERS;ANSWER expected, {len(case.parts) + 1} parts found")
-    name, numbers, answer = case.parts
+def parts_of(case, form):
+    """The parts of a case, as many as its form has."""
+    if len(case.parts) != len(form.split(";")):
+        raise fault_in(case, f"{case.word};{form} expected, {len(case.parts) + 1} parts found")
+    return case.parts
+
+
+def sheet_in(case, name):
     if name not in case.sheets:
         raise fault_in(case, f"there is no sheet '{name}'")
-    if not re.fullmatch(r"[0-9]{1,10}( [0-9]{1,10}){24}", numbers):
-        raise fault_in(case, f"25 whole numbers expected, '{numbers}' found")
-    return Verdict(case.file, case.line, name, case.sheets[name], [int(word) for word in numbers.split(" ")], answer)
+    return case.sheets[name]
 
 
-def verdicts():
-    """The cases of the whole call."""
-    return [verdict_of(case) for case in cases() if case.word == "verdict"]
+def numbers_in(case, text, count=None):
+    """The numbers of a part; without a count, as many as a file has that begins with the first."""
+    numbers = [int(word) for word in text.split(" ")] if re.fullmatch(NUMBER_ROW, text) else []
+    due = count_after(numbers[0] if numbers else 0) if count is None else count
+    if len(numbers) != due or max(numbers) > NUMBER_MOST:
+        raise fault_in(case, f"{due} whole numbers below 2^32 expected, '{text}' found")
+    return numbers
+
+
+def bytes_in(case, text):
+    if not re.fullmatch(HEXADECIMAL, text):
+        raise fault_in(case, f"bytes in hexadecimal, or -, expected, '{text}' found")
+    return b"" if text == "-" else bytes.fromhex(text)
+
+
+def room_in(case, text):
+    if not re.fullmatch(r"[0-9]{1,4}", text):
+        raise fault_in(case, f"a length of up to four digits expected, '{text}' found")
+    return int(text)
+
+
+def answer_in(case, text, form, what):
+    """An answer, held to the form that it has where nothing is refused."""
+    if not re.fullmatch(f"{REFUSED}|{form}", text):
+        raise fault_in(case, f"{what} or a refusal expected, '{text}' found")
+    return text
+
+
+def verdict_of(case):
+    """The case of a line verdict;SHEET;NUMBERS;ANSWER."""
+    name, numbers, answer = parts_of(case, "SHEET;NUMBERS;ANSWER")
+    due = answer_in(case, answer, REPORT, "a report")
+    return Verdict(case.file, case.line, name, sheet_in(case, name), numbers_in(case, numbers), due)
+
+
+def writing_of(count):
+    """What makes the case of a line CALL;NUMBERS;ROOM;ANSWER, the call taking so many numbers."""
+    def read(case):
+        numbers, room, answer = parts_of(case, "NUMBERS;ROOM;ANSWER")
+        due = answer_in(case, answer, HEXADECIMAL, "bytes in hexadecimal")
+        return Writing(case.file, case.line, numbers_in(case, numbers, count), room_in(case, room), due)
+    return read
+
+
+def reading_of(case):
+    """The case of a line read_job;BYTES;ANSWER."""
+    data, answer = parts_of(case, "BYTES;ANSWER")
+    return Reading(case.file, case.line, bytes_in(case, data), answer_in(case, answer, NUMBER_ROW, "numbers"))
+
+
+def file_verdict_of(case):
+    """The case of a line verdict_file;SHEET;BYTES;ROOM;ANSWER."""
+    name, data, room, answer = parts_of(case, "SHEET;BYTES;ROOM;ANSWER")
+    due = answer_in(case, answer, REPORT, "a report")
+    return FileVerdict(case.file, case.line, sheet_in(case, name), bytes_in(case, data), room_in(case, room), due)
+
+
+# By the word of a call: what makes its case of a line.
+CALLS = {"verdict": verdict_of, "write_job": writing_of(NUMBERS), "write_support": writing_of(SUPPORT_NUMBERS),
+         "read_job": reading_of, "verdict_file": file_verdict_of}
+
+
+def cases_of_call(word):
+    """The cases of one call, of every request-NN.txt."""
+    return [CALLS[word](case) for case in cases() if case.word == word]
