@@ -111,12 +111,46 @@ SHOWN_J = """\
   25  pad area: 2000  [100 to 10000 cm2]
 """
 
+# The support whose report request-02.txt gives first, under sheet T; and what show prints of it, whole.
+SUPPORT = ["3", "1", "150", "30", "100", "9000", "6000", "300", "1000", "400", "4", "200", "2000"]
+SUPPORT_REPORT = """\
+1 0 0
+2 0 0
+3 0 0
+4 0 0
+5 0 0
+6 0 0
+7 1 19200
+8 1 17940
+9 0 0
+10 1 19200
+11 1 19200
+wind 84 22491
+column 1330
+"""
+SHOWN_SUPPORT = """\
+   1  kind: 3  [3 (support)]
+   2  tube: 1  [1 (48 by 3.5 mm) or 2 (51 by 3.0 mm)]
+   3  step: 150  [60 to 200 cm]
+   4  overhang above the top ledger: 30  [0 to 100 cm]
+   5  bay: 100  [60 to 200 cm]
+   6  dead load per pole: 9000  [0 to 60000 N]
+   7  live load per pole: 6000  [0 to 60000 N]
+   8  basic wind: 300  [0 to 2000 N/m2]
+   9  height factor: 1000  [100 to 4000 thousandths]
+  10  shape factor: 400  [0 to 2000 thousandths]
+  11  soil: 4  [1 (gravel), 2 (sand), 3 (fill), 4 (clay) or 5 (rock or concrete)]
+  12  ground strength: 200  [10 to 2000 kPa]
+  13  pad area: 2000  [100 to 10000 cm2]
+"""
+
 
 def job_file(cells):
     return given.job_file(map(int, cells.split(",")))
 
 
 JOB = job_file(tables.J)
+SUPPORT_FILE = job_file(",".join(SUPPORT))
 # Job files that are refused when shown: the line on standard output, and standard error.
 JOBS_REFUSED = [
     ("nothing", b"", "refused 6 0\n", "rembilung: the job file is damaged at offset 0: the number there is missing, cut off, "
@@ -129,6 +163,13 @@ JOBS_REFUSED = [
      "rembilung: number 10, working layers, is greater than number 9, boarded layers"),
     ("a thin wall", job_file(tables.with_cell(20, "180", tables.SINGLE)), "refused 5 20\n",
      "rembilung: number 20, wall thickness: a single row needs a wall of more than 180 mm"),
+    ("a support with a byte too many", SUPPORT_FILE + b"\0", f"refused 7 {len(SUPPORT_FILE)}\n",
+     f"rembilung: the job file goes on after its 13th number, from offset {len(SUPPORT_FILE)}"),
+    ("a support with an overhang of 101", job_file(",".join(SUPPORT[:3] + ["101"] + SUPPORT[4:])), "refused 3 4\n",
+     "rembilung: number 4, overhang above the top ledger, is outside its range; it may be 0 to 100 cm"),
+    ("a support of 12 numbers", job_file(",".join(SUPPORT[:12])), "refused 6 19\n",
+     "rembilung: the job file is damaged at offset 19: the number there is missing, cut off, not in its shortest form or above "
+     "4294967295"),
 ]
 
 

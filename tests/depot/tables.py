@@ -178,6 +178,8 @@ BAD = [
     ("outside its range", with_cell(4, "59"), refused(3, 3, 4, "D3", "column D: number 4, bay, is 59" + BAY)),
     ("the lowest field outside its range", with_cell(25, "99", with_cell(8, "0")),
      refused(3, 3, 8, "H3", "column H: number 8, boards, is 0; it may be 1 (steel), 2 (bamboo) or 3 (timber)")),
+    ("a support, which has no table", with_cell(1, "3"),
+     refused(3, 3, 1, "A3", "column A: number 1, family, is 3; it may be 1 (double row) or 2 (single row)")),
     ("the greatest number", with_cell(4, "4294967295"), refused(3, 3, 4, "D3", "column D: number 4, bay, is 4294967295" + BAY)),
     ("more working than boarded layers", with_cell(10, "5"),
      refused(3, 4, 10, "J3", "column J: number 10, working layers, is greater than number 9, boarded layers")),
