@@ -31,8 +31,30 @@ def job(**changed):
     fields = {f"field{k}": n for k, n in enumerate(J, 1)} | changed
     return job_file(fields.values())
 
+# a support, its numbers by place from 1, and its report under sheet T, which tests/vectors/request-02.txt gives
+SUPPORT = [3, 1, 150, 30, 100, 9000, 6000, 300, 1000, 400, 4, 200, 2000]
+SUPPORT_REPORT = """1 0 0
+2 0 0
+3 0 0
+4 0 0
+5 0 0
+6 0 0
+7 1 19200
+8 1 17940
+9 0 0
+10 1 19200
+11 1 19200
+wind 84 22491
+column 1330
+"""
+
+def support(**changed):
+    numbers = {f"number{k}": n for k, n in enumerate(SUPPORT, 1)} | changed
+    return job_file(numbers.values())
+
 SHEET = packed(T)
 FILE = job()  # 38 bytes
+SUPPORT_FILE = support()  # 21 bytes
 LONGEST = groups(4294967295) * 25  # five bytes each
 
 # what the crate verdict is run on: column.dat, standard input, standard output
@@ -62,4 +84,17 @@ MORE = {
     # 7: thousands of bytes after 25 numbers
     "one byte after job J": (SHEET, FILE + b"\0", "refused 7 38\n"),
     "far more than 25 numbers": (SHEET, LONGEST + bytes(5000), "refused 7 125\n"),
+    # a first number of 3: 13 numbers, and a report without heights
+    "a support": (SHEET, SUPPORT_FILE, SUPPORT_REPORT),
+    "a support under a sheet cut short": (SHEET[:501], SUPPORT_FILE, "refused 1 501\n"),
+    # its number 4, the overhang, is up to 100
+    "overhang 101": (SHEET, support(number4=101), "refused 3 4\n"),
+    # its last number, of two bytes at offset 19, is cut off
+    "a support cut off": (SHEET, SUPPORT_FILE[:-1], "refused 6 19\n"),
+    "one byte after a support": (SHEET, SUPPORT_FILE + b"\0", "refused 7 21\n"),
+    "far more than 13 numbers": (SHEET, SUPPORT_FILE + bytes(5000), "refused 7 21\n"),
+    # job J after a first number of 3: its first 13 numbers have 18 bytes
+    "25 numbers that begin with 3": (SHEET, job(field1=3), "refused 7 18\n"),
+    # any other first number makes 25 numbers, of which 12 are missing
+    "13 numbers that begin with 4": (SHEET, support(number1=4), "refused 6 21\n"),
 }
