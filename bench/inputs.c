@@ -18,7 +18,7 @@ uint32_t from_to(uint32_t low, uint32_t high) {
 
 size_t pack(const uint32_t *numbers, uint8_t *file) {
     size_t at = 0;
-    for (int k = 0; k < REMBILUNG_NUMBERS; k++) {
+    for (int k = 0; k < (numbers[0] == 3 ? REMBILUNG_SUPPORT_NUMBERS : REMBILUNG_NUMBERS); k++) {
         uint32_t rest = numbers[k];
         for (; rest >= 128; rest /= 128)
             file[at++] = (uint8_t)(rest % 128 + 128);

@@ -35,7 +35,7 @@ void make_inputs(void);
 uint32_t from_to(uint32_t low, uint32_t high);
 /* A random job in range, without contradiction, of a family. */
 void random_job(uint32_t family, uint32_t *numbers);
-/* Packs numbers into a file as the paper has it, and returns its length. */
+/* Packs the numbers of a job, 13 where the first is 3, into a file as the papers have it, and returns its length. */
 size_t pack(const uint32_t *numbers, uint8_t *file);
 
 #endif

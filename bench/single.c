@@ -1,6 +1,6 @@
 /* Sends jobs one by one through an exported call, for the count of each call by itself: single CALL [step] < jobs.
  *
- * A line of jobs is a sheet's number (bench/vary.h) and the 25 numbers. With "step" each call's instructions are counted by
+ * A line of jobs is a sheet's number (bench/vary.h) and the 25 numbers, or for write_support the 13. With "step" each call's instructions are counted by
  * the processor's step trap and printed, the library's own and those of the memory functions. "single CALL inputs" sends
  * every input of bench/inputs.c instead, and prints its class, numbers and file. */
 #define _GNU_SOURCE
@@ -16,7 +16,7 @@
 #error "instructions are counted by the x86-64 trap flag; measure another processor by its own means"
 #endif
 
-enum { VERDICT, WRITE, READ, CALLS };
+enum { VERDICT, WRITE, READ, WRITE_SUPPORT, CALLS };
 
 /* The memory functions stand in a section of their own; the linker knows its ends. */
 extern const char __start_memory_functions[], __stop_memory_functions[];
@@ -58,9 +58,10 @@ static void send(int which, const Input *in, int step) {
     const uint64_t argument[CALLS][6] = {
         {(uintptr_t)in->sheet, in->sheet_len, (uintptr_t)in->file, in->file_len, (uintptr_t)report, in->report_len},
         {(uintptr_t)in->numbers, (uintptr_t)report, REMBILUNG_FILE_MOST},
-        {(uintptr_t)in->file, in->file_len, (uintptr_t)numbers}};
+        {(uintptr_t)in->file, in->file_len, (uintptr_t)numbers},
+        {(uintptr_t)in->numbers, (uintptr_t)report, REMBILUNG_FILE_MOST}};
     const uintptr_t function[CALLS] = {(uintptr_t)rembilung_verdict, (uintptr_t)rembilung_write_job,
-                                       (uintptr_t)rembilung_read_job};
+                                       (uintptr_t)rembilung_read_job, (uintptr_t)rembilung_write_support};
     own = lent = 0;
     entry = function[which];
     call_it((const void *)entry, argument[which], step ? 0x100 : 0);
@@ -69,16 +70,16 @@ static void send(int which, const Input *in, int step) {
 }
 
 static void usage(void) {
-    fprintf(stderr, "usage: single CALL [step] < jobs, or single CALL inputs; CALL is 0 verdict, 1 write_job, 2 read_job\n");
+    fprintf(stderr, "usage: single CALL [step] < jobs, or single CALL inputs; CALL is 0 verdict, 1 write_job, 2 read_job, 3 write_support\n");
     exit(2);
 }
 
 /* The next line's job; 0 at the end. */
-static int next_job(Input *in) {
+static int next_job(Input *in, int count) {
     int sheet;
     if (scanf("%d", &sheet) != 1)
         return 0;
-    for (int k = 0; k < REMBILUNG_NUMBERS; k++)
+    for (int k = 0; k < count; k++)
         if (scanf("%u", &in->numbers[k]) != 1)
             usage();
     if (sheet < 0 || sheet >= SHEETS)
@@ -120,7 +121,7 @@ int main(int words, char **word) {
     make_inputs();
     if (whole)
         send_inputs(which);
-    while (!whole && next_job(&in))
+    while (!whole && next_job(&in, which == WRITE_SUPPORT ? REMBILUNG_SUPPORT_NUMBERS : REMBILUNG_NUMBERS))
         send(which, &in, step);
     return 0;
 }

@@ -8,7 +8,7 @@
 #error "the stack is switched by x86-64 instructions; measure another processor by its own means"
 #endif
 
-enum { ROOM = 16384, RANDOM = 20000, CALLS = 3 };
+enum { ROOM = 16384, RANDOM = 20000, CALLS = 4 };
 
 static _Alignas(16) uint8_t stack[ROOM];
 
@@ -18,7 +18,8 @@ typedef struct {
     const char *where;
 } Depth;
 
-static Depth depths[CALLS] = {{"rembilung_verdict", 0, ""}, {"rembilung_write_job", 0, ""}, {"rembilung_read_job", 0, ""}};
+static Depth depths[CALLS] = {{"rembilung_verdict", 0, ""}, {"rembilung_write_job", 0, ""}, {"rembilung_read_job", 0, ""},
+                              {"rembilung_write_support", 0, ""}};
 
 /* Calls a function of up to six arguments on the painted stack; its return address is the first thing there. */
 static uint64_t call_there(const void *function, const uint64_t argument[6]) {
@@ -62,17 +63,18 @@ static void measure(const Input *in, size_t buffer, const char *where) {
     keep(0, depth_of((const void *)(uintptr_t)rembilung_verdict, verdict), where);
     keep(1, depth_of((const void *)(uintptr_t)rembilung_write_job, write), where);
     keep(2, depth_of((const void *)(uintptr_t)rembilung_read_job, read), where);
+    keep(3, depth_of((const void *)(uintptr_t)rembilung_write_support, write), where);
 }
 
-static void measure_random(void) {
+static void measure_random(void (*any)(uint32_t *numbers), const char *where) {
     static Input in;
     for (int k = 0; k < RANDOM; k++) {
-        any_job(in.numbers);
+        any(in.numbers);
         in.sheet = sheet_number((int)from_to(0, SHEETS - 1));
         in.sheet_len = REMBILUNG_SHEET_BYTES;
         in.file_len = pack(in.numbers, in.file);
         in.report_len = from_to(0, 9) == 0 ? from_to(0, REMBILUNG_REPORT_MOST) : REMBILUNG_REPORT_MOST;
-        measure(&in, from_to(0, 1) == 0 ? REMBILUNG_FILE_MOST : from_to(0, REMBILUNG_FILE_MOST), "random and limit jobs");
+        measure(&in, from_to(0, 1) == 0 ? REMBILUNG_FILE_MOST : from_to(0, REMBILUNG_FILE_MOST), where);
     }
 }
 
@@ -81,8 +83,9 @@ int main(void) {
     for (int c = 0; c < CLASSES; c++)
         for (int k = 0; k < PER_CLASS; k++)
             measure(&inputs[c][k], k % (REMBILUNG_FILE_MOST + 1), classes[c].name);
-    measure_random();
+    measure_random(any_job, "random and limit jobs");
+    measure_random(any_support, "random and limit supports");
     for (int c = 0; c < CALLS; c++)
-        printf("%s;%zu;%s;%d\n", depths[c].call, depths[c].deepest, depths[c].where, CLASSES * PER_CLASS + RANDOM);
+        printf("%s;%zu;%s;%d\n", depths[c].call, depths[c].deepest, depths[c].where, CLASSES * PER_CLASS + 2 * RANDOM);
     return 0;
 }

@@ -41,6 +41,15 @@ void any_job(uint32_t *numbers) {
     }
 }
 
+void any_support(uint32_t *numbers) {
+    static const uint32_t range[REMBILUNG_SUPPORT_NUMBERS][2] = {
+        {3, 3},    {1, 2},      {60, 200},  {0, 100},   {60, 200},  {0, 60000}, {0, 60000},
+        {0, 2000}, {100, 4000}, {0, 2000},  {1, 5},     {10, 2000}, {100, 10000}};
+    int at_ends = from_to(0, 3) == 0;
+    for (int k = 0; k < REMBILUNG_SUPPORT_NUMBERS; k++)
+        numbers[k] = at_ends ? range[k][from_to(0, 1)] : from_to(range[k][0], range[k][1]);
+}
+
 static uint32_t entry_of(int sheet, int k) {
     static const uint32_t flat[] = {1000, 117};
     if (sheet < 2)
