@@ -1,8 +1,8 @@
 /* Sends jobs one by one through an exported call, for the count of each call by itself: single CALL [step] < jobs.
  *
- * A line of jobs is a sheet's number (bench/vary.h) and the 25 numbers, or for write_support the 13. With "step" each call's instructions are counted by
- * the processor's step trap and printed, the library's own and those of the memory functions. "single CALL inputs" sends
- * every input of bench/inputs.c instead, and prints its class, numbers and file. */
+ * A line of jobs is a sheet's number (bench/vary.h) and the 25 numbers, or for write_support the 13. With "step" each call's
+ * instructions are counted by the processor's step trap and printed, the library's own and those of the memory functions.
+ * "single CALL inputs" sends every input of bench/inputs.c instead, and prints its class, numbers and file. */
 #define _GNU_SOURCE
 #include <signal.h>
 #include <stdio.h>

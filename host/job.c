@@ -44,7 +44,7 @@ static int number_of(const Field *field, int place, const char *word, uint32_t *
     return 0;
 }
 
-/* The kind that the first word makes; a word that is no number makes none, and is named later. */
+/* The kind that the first word makes; one that is no number is taken for a scaffold's, and is named later. */
 static const Kind *kind_keyed_in(const Words *given) {
     uint32_t first = 0;
     read_number(given->words[0], strlen(given->words[0]), &first);
