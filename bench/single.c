@@ -70,7 +70,8 @@ static void send(int which, const Input *in, int step) {
 }
 
 static void usage(void) {
-    fprintf(stderr, "usage: single CALL [step] < jobs, or single CALL inputs; CALL is 0 verdict, 1 write_job, 2 read_job, 3 write_support\n");
+    fprintf(stderr, "usage: single CALL [step] < jobs, or single CALL inputs; CALL is 0 verdict, 1 write_job, 2 read_job, "
+                    "3 write_support\n");
     exit(2);
 }
 

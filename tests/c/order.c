@@ -75,8 +75,9 @@ static void whole_call(const Judged *job, int faults) {
     Faulty file = faulty_file(job, faults);
     size_t room = job->report.length - (faults & SHORT ? 1 : 0);
     case_begins("verdict of %s with faults %02x (hexadecimal): sheet length %d, entry %d, file cut %d, extra byte %d, range %d, "
-                "layers %d, wall %d, short report %d", job->name, faults, !!(faults & LENGTH), !!(faults & ENTRY), !!(faults & DAMAGED),
-                !!(faults & EXTRA), !!(faults & RANGE), !!(faults & LAYERS), !!(faults & WALL), !!(faults & SHORT));
+                "layers %d, wall %d, short report %d", job->name, faults, !!(faults & LENGTH), !!(faults & ENTRY),
+                !!(faults & DAMAGED), !!(faults & EXTRA), !!(faults & RANGE), !!(faults & LAYERS), !!(faults & WALL),
+                !!(faults & SHORT));
     expect_verdict((Bytes){sheet.bytes, sheet_length}, (Bytes){file.bytes, file.length}, room,
                    first_due(job, faults, sheet_length, &file));
 }
