@@ -45,6 +45,11 @@ def job_file(numbers):
     return b"".join(groups(number) for number in numbers)
 
 
+def unhexed(text):
+    """The bytes of a part in hexadecimal, '-' for none."""
+    return b"" if text == "-" else bytes.fromhex(text)
+
+
 def count_after(first):
     """How many numbers a job file has that begins with this one."""
     return SUPPORT_NUMBERS if first == SUPPORT else NUMBERS
@@ -157,7 +162,7 @@ def numbers_in(case, text, count=None):
 def bytes_in(case, text):
     if not re.fullmatch(HEXADECIMAL, text):
         raise fault_in(case, f"bytes in hexadecimal, or -, expected, '{text}' found")
-    return b"" if text == "-" else bytes.fromhex(text)
+    return unhexed(text)
 
 
 def room_in(case, text):
