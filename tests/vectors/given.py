@@ -45,7 +45,7 @@ def job_file(numbers):
     return b"".join(groups(number) for number in numbers)
 
 
-def unhexed(text):
+def bytes_of(text):
     """The bytes of a part in hexadecimal, '-' for none."""
     return b"" if text == "-" else bytes.fromhex(text)
 
@@ -162,7 +162,7 @@ def numbers_in(case, text, count=None):
 def bytes_in(case, text):
     if not re.fullmatch(HEXADECIMAL, text):
         raise fault_in(case, f"bytes in hexadecimal, or -, expected, '{text}' found")
-    return unhexed(text)
+    return bytes_of(text)
 
 
 def room_in(case, text):
