@@ -1,4 +1,5 @@
 //! The eleven checks: the figure of each, what is compared, and the verdict.
+//! What 7, 8, 10 and 11 compare stands in functions that take a support's figures too.
 
 use super::constants::{STRENGTH, soil_factor, tube};
 use super::figures;
@@ -35,11 +36,11 @@ pub fn check(number: usize, job: &Job, sheet: &Sheet, height: u32) -> Check {
         4 => deflection(figures::ledger_deflection(job), job.la()),
         5 => rounded(figures::slip(job).up(), d!(8_000)),
         6 => slenderness(job),
-        7 => rounded(figures::pole_force(job, height), capacity(job, sheet)),
-        8 => stability_in_wind(job, sheet, height),
+        7 => stability(figures::pole_force(job, height), reduced_area(job, sheet)),
+        8 => Check { due: wind_is_due(job), ..in_wind(job, sheet, height) },
         9 => rounded(figures::tie_force(job), job.number(22)),
-        10 => rounded(figures::pole_force(job, height), d!(40_000)),
-        11 => rounded(figures::pole_force(job, height), ground(job)),
+        10 => pole_limit(figures::pole_force(job, height)),
+        11 => ground(figures::pole_force(job, height), job.field(23), job.number(24), job.number(25)),
         _ => panic!("checks 1 to 11"),
     }
 }
@@ -66,17 +67,21 @@ fn reduced_area(job: &Job, sheet: &Sheet) -> Fraction {
     sheet.stability_factor(figures::column_slenderness(job)) * tube(job).area
 }
 
-/// φAf, N.
-fn capacity(job: &Job, sheet: &Sheet) -> Fraction {
-    reduced_area(job, sheet) * STRENGTH
+/// N, at most φAf.
+pub fn stability(force: i128, reduced_area: Fraction) -> Check {
+    rounded(force, reduced_area * STRENGTH)
+}
+
+fn in_wind(job: &Job, sheet: &Sheet, height: u32) -> Check {
+    let (force, moment) = (figures::pole_force_in_wind(job, height), figures::wind_moment(job));
+    stability_in_wind(force, reduced_area(job, sheet), moment, tube(job).modulus)
 }
 
 /// Nw/(φA) + Mw/W, at most f.
-fn stability_in_wind(job: &Job, sheet: &Sheet, height: u32) -> Check {
-    let force = figures::pole_force_in_wind(job, height);
-    let bending = Fraction::whole(figures::wind_moment(job)) / tube(job).modulus;
-    let left = Fraction::whole(force) / reduced_area(job, sheet) + bending;
-    Check { due: wind_is_due(job), left, right: STRENGTH, figure: force }
+pub fn stability_in_wind(force: i128, reduced_area: Fraction, moment: i128, modulus: Fraction) -> Check {
+    let bending = Fraction::whole(moment) / modulus;
+    let left = Fraction::whole(force) / reduced_area + bending;
+    Check { due: true, left, right: STRENGTH, figure: force }
 }
 
 /// Check 8 is not due when w0 is at most 350, the enclosure is open and t × h × 3la is at most 30 m².
@@ -84,7 +89,12 @@ fn wind_is_due(job: &Job) -> bool {
     !(job.number(15) <= d!(350) && job.is_open() && figures::tie_face(job) <= d!(30))
 }
 
-/// Soil factor × strength × pad in newtons: kPa are 1,000 N/m² and cm² are 1/10,000 m².
-fn ground(job: &Job) -> Fraction {
-    soil_factor(job) * (job.number(24) * d!(1000)) * (job.number(25) / d!(10_000))
+/// N, at most 40,000.
+pub fn pole_limit(force: i128) -> Check {
+    rounded(force, d!(40_000))
+}
+
+/// N, at most soil factor × strength × pad in newtons: kPa are 1,000 N/m² and cm² are 1/10,000 m².
+pub fn ground(force: i128, soil: u32, strength: Fraction, pad: Fraction) -> Check {
+    rounded(force, soil_factor(soil) * (strength * d!(1000)) * (pad / d!(10_000)))
 }

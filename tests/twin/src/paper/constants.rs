@@ -1,7 +1,7 @@
 //! The constants: tubes, steel, boards and rails, length factors, soil factors.
 
 use super::fraction::{Fraction, d};
-use super::job::Job;
+use super::job::{Fields, Job};
 
 /// f, N/mm².
 pub const STRENGTH: Fraction = Fraction::decimal("205");
@@ -16,7 +16,8 @@ pub struct Tube {
     pub inertia: Fraction,
 }
 
-pub fn tube(job: &Job) -> Tube {
+/// The tube is field 2 of either kind of job.
+pub fn tube<const N: usize>(job: &Fields<N>) -> Tube {
     match job.field(2) {
         1 => Tube { area: d!(489), modulus: d!(5_080), radius: d!(15.8), inertia: d!(121_900) },
         _ => Tube { area: d!(452), modulus: d!(5_130), radius: d!(17.0), inertia: d!(130_800) },
@@ -56,8 +57,8 @@ pub fn length_factor(job: &Job) -> Fraction {
     }
 }
 
-pub fn soil_factor(job: &Job) -> Fraction {
-    match job.field(23) {
+pub fn soil_factor(soil: u32) -> Fraction {
+    match soil {
         4 => d!(0.5),
         5 => d!(1.0),
         _ => d!(0.4),

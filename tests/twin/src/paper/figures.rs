@@ -1,12 +1,17 @@
 //! The figures: wind, loads, pole forces, slenderness, transom and ledger. Lengths in metres.
+//! Those of a pole have their formula in a function that takes a support's fields too.
 
 use super::constants::{ELASTICITY, boards, length_factor, rails, tube};
 use super::fraction::{Fraction, d};
 use super::job::Job;
 
 /// wk = 0.7 × height factor × shape × w0, up to a whole N/m².
+pub fn wind_pressure(height_factor: Fraction, shape: Fraction, w0: Fraction) -> Fraction {
+    Fraction::whole((d!(0.7) * height_factor * shape * w0).up())
+}
+
 pub fn wind(job: &Job) -> Fraction {
-    Fraction::whole((d!(0.7) * job.thousandths(16) * shape(job) * job.number(15)).up())
+    wind_pressure(job.thousandths(16), shape(job), job.number(15))
 }
 
 /// The shield when open; else 1.2 × shield × 1.0 (closed wall) or 1.3.
@@ -40,20 +45,34 @@ fn structure(job: &Job, height: u32) -> Fraction {
     job.number(14) * Fraction::of(i128::from(height), 100)
 }
 
-/// N = 1.2(G1 + G2) + 1.4 L, up to a whole newton.
+/// 1.2 dead + 1.4 live, up to a whole newton.
+pub fn factored(dead: Fraction, live: Fraction) -> i128 {
+    (d!(1.2) * dead + d!(1.4) * live).up()
+}
+
+/// 1.2 dead + 1.19 live, up to a whole newton.
+pub fn factored_in_wind(dead: Fraction, live: Fraction) -> i128 {
+    (d!(1.2) * dead + d!(1.19) * live).up()
+}
+
+/// N = 1.2(G1 + G2) + 1.4 L.
 pub fn pole_force(job: &Job, height: u32) -> i128 {
-    (d!(1.2) * (structure(job, height) + fittings(job)) + d!(1.4) * live(job)).up()
+    factored(structure(job, height) + fittings(job), live(job))
 }
 
-/// Nw = 1.2(G1 + G2) + 1.19 L, up to a whole newton.
+/// Nw = 1.2(G1 + G2) + 1.19 L.
 pub fn pole_force_in_wind(job: &Job, height: u32) -> i128 {
-    (d!(1.2) * (structure(job, height) + fittings(job)) + d!(1.19) * live(job)).up()
+    factored_in_wind(structure(job, height) + fittings(job), live(job))
 }
 
-/// Mw = 1.19 × wk × la × h² / 10, up to a whole N·mm.
-pub fn wind_moment(job: &Job) -> i128 {
-    let newton_metres = d!(1.19) * wind(job) * job.la() * job.h() * job.h() / d!(10);
+/// Mw = 1.19 × wk × bay × h² / 10, up to a whole N·mm.
+pub fn moment(wk: Fraction, bay: Fraction, h: Fraction) -> i128 {
+    let newton_metres = d!(1.19) * wk * bay * h * h / d!(10);
     (newton_metres * d!(1000)).up()
+}
+
+pub fn wind_moment(job: &Job) -> i128 {
+    moment(wind(job), job.la(), job.h())
 }
 
 /// factor × h / i, unrounded.
@@ -66,9 +85,8 @@ pub fn unrounded_column_slenderness(job: &Job) -> Fraction {
     d!(1.155) * slenderness(job)
 }
 
-/// Z = 1.155 × factor × h / i: where it is at most 250 up to a tenth, above 250 up to a whole number.
-pub fn column_slenderness(job: &Job) -> Fraction {
-    let z = unrounded_column_slenderness(job);
+/// A slenderness as the sheet is read at it: where it is at most 250 up to a tenth, above 250 up to a whole number.
+pub fn rounded_slenderness(z: Fraction) -> Fraction {
     if z <= d!(250) { up_to_a_tenth(z) } else { Fraction::whole(z.up()) }
 }
 
@@ -76,9 +94,18 @@ fn up_to_a_tenth(z: Fraction) -> Fraction {
     Fraction::of((z * d!(10)).up(), 10)
 }
 
+/// Z = 1.155 × factor × h / i.
+pub fn column_slenderness(job: &Job) -> Fraction {
+    rounded_slenderness(unrounded_column_slenderness(job))
+}
+
 /// Z in tenths, a whole number of them on both sides of 250.
+pub fn in_tenths(z: Fraction) -> i128 {
+    (z * d!(10)).up()
+}
+
 pub fn column_tenths(job: &Job) -> i128 {
-    (column_slenderness(job) * d!(10)).up()
+    in_tenths(column_slenderness(job))
 }
 
 /// (1.2g + 1.4q)(la/2) lb²/8 in N·mm, not yet rounded.

@@ -1,13 +1,31 @@
 //! The job file: numbers in groups of seven bits, read and written.
 
-use super::job::{Job, accept};
+use super::job::{self, Fields, Job};
 use super::refusal::{Refusal, refuse};
+use super::support::{self, Support};
+
+/// What a file holds.
+pub enum Content {
+    Job(Job),
+    Support(Support),
+}
+
+/// A first number of 3 marks a support; with any other the file is read as 25 numbers.
+pub fn read(bytes: &[u8]) -> Result<Content, Refusal> {
+    match read_number(bytes) {
+        Some((3, _)) => read_fields(bytes, support::accept).map(Content::Support),
+        _ => read_fields(bytes, job::accept).map(Content::Job),
+    }
+}
+
+/// Refusal 3, and 4 and 5 where they occur.
+type Accept<const N: usize> = fn(&Fields<N>) -> Result<(), Refusal>;
 
 /// Reading: 6, 7, 3, 4, 5.
-pub fn read(bytes: &[u8]) -> Result<Job, Refusal> {
-    let mut numbers = [0; 25];
+fn read_fields<const N: usize>(bytes: &[u8], accept: Accept<N>) -> Result<Fields<N>, Refusal> {
+    let mut fields = Fields([0; N]);
     let mut at = 0;
-    for number in &mut numbers {
+    for number in &mut fields.0 {
         match read_number(&bytes[at..]) {
             Some((value, length)) => {
                 *number = value;
@@ -19,8 +37,8 @@ pub fn read(bytes: &[u8]) -> Result<Job, Refusal> {
     if at < bytes.len() {
         return refuse(7, at as u64);
     }
-    accept(&Job(numbers))?;
-    Ok(Job(numbers))
+    accept(&fields)?;
+    Ok(fields)
 }
 
 /// The number at the start and its length; none if it is cut off, not shortest or too great.
@@ -38,14 +56,14 @@ fn read_number(bytes: &[u8]) -> Option<(u32, usize)> {
 }
 
 /// Writing a file: 3, 4, 5, 8. Each number goes into what is left after the one before.
-pub fn write(job: &Job, bytes: &mut [u8]) -> Result<usize, Refusal> {
-    accept(job)?;
-    let needed = job.0.iter().map(|&number| groups(number).len()).sum();
+pub fn write<const N: usize>(fields: &Fields<N>, accept: Accept<N>, bytes: &mut [u8]) -> Result<usize, Refusal> {
+    accept(fields)?;
+    let needed = fields.0.iter().map(|&number| groups(number).len()).sum();
     if bytes.len() < needed {
         return refuse(8, needed as u64);
     }
     let mut at = 0;
-    for &number in &job.0 {
+    for &number in &fields.0 {
         at += write_number(number, &mut bytes[at..]);
     }
     Ok(at)

@@ -1,30 +1,26 @@
 //! The job: 25 whole numbers, the range of each, and the refusals 3, 4 and 5.
+//! What a scaffold job and a support have in common stands first.
 
 use super::fraction::Fraction;
 use super::refusal::{Refusal, refuse};
 use std::ops::RangeInclusive;
 
-/// The 25 numbers in the paper's order; field 1 stands first.
+/// The numbers of a job of either kind in the paper's order; field 1 stands first.
 #[derive(Clone, Copy, PartialEq, Eq, Debug)]
-pub struct Job(pub [u32; 25]);
+pub struct Fields<const N: usize>(pub [u32; N]);
 
-impl Job {
+/// A scaffold job.
+pub type Job = Fields<25>;
+
+impl<const N: usize> Fields<N> {
     pub fn field(&self, field: usize) -> u32 {
         self.0[field - 1]
     }
 
     /// The job with another value in one field.
-    pub fn with(mut self, field: usize, value: u32) -> Job {
+    pub fn with(mut self, field: usize, value: u32) -> Fields<N> {
         self.0[field - 1] = value;
         self
-    }
-
-    pub fn is_double_row(&self) -> bool {
-        self.field(1) == 1
-    }
-
-    pub fn is_open(&self) -> bool {
-        self.field(17) == 1
     }
 
     /// A field as a fraction, in the field's own unit.
@@ -32,8 +28,24 @@ impl Job {
         Fraction::whole(i128::from(self.field(field)))
     }
 
-    fn metres(&self, field: usize) -> Fraction {
+    /// A field of centimetres in metres.
+    pub fn metres(&self, field: usize) -> Fraction {
         Fraction::of(i128::from(self.field(field)), 100)
+    }
+
+    /// A field in thousandths.
+    pub fn thousandths(&self, field: usize) -> Fraction {
+        Fraction::of(i128::from(self.field(field)), 1000)
+    }
+}
+
+impl Job {
+    pub fn is_double_row(&self) -> bool {
+        self.field(1) == 1
+    }
+
+    pub fn is_open(&self) -> bool {
+        self.field(17) == 1
     }
 
     /// Pole spacing across, m.
@@ -49,11 +61,6 @@ impl Job {
     /// Step, m.
     pub fn h(&self) -> Fraction {
         self.metres(5)
-    }
-
-    /// A field in thousandths.
-    pub fn thousandths(&self, field: usize) -> Fraction {
-        Fraction::of(i128::from(self.field(field)), 1000)
     }
 }
 

@@ -1,4 +1,4 @@
-//! Document 01 with request 1/14, in its own order and in exact fractions: what the library is compared with.
+//! Document 01 with requests 1/14 and 2/14, in its own order and in exact fractions: what the library is compared with.
 
 pub mod calls;
 pub mod checks;
@@ -11,3 +11,4 @@ pub mod job;
 pub mod refusal;
 pub mod report;
 pub mod sheet;
+pub mod support;
