@@ -7,6 +7,7 @@ use std::fmt;
 pub enum Call {
     Verdict { sheet: Vec<u8>, file: Vec<u8>, report: usize, fill: u64 },
     Write { numbers: [u32; 25], file: usize, fill: u64 },
+    WriteSupport { numbers: [u32; 13], file: usize, fill: u64 },
     Read { file: Vec<u8>, fill: u64 },
 }
 
@@ -20,12 +21,18 @@ impl fmt::Display for Call {
                 write!(to, "verdict sheet={} file={} report={report} fill={fill}", hex(sheet), hex(file))
             }
             Call::Write { numbers, file, fill } => {
-                let numbers: Vec<String> = numbers.iter().map(u32::to_string).collect();
-                write!(to, "write numbers={} file={file} fill={fill}", numbers.join(","))
+                write!(to, "write numbers={} file={file} fill={fill}", commas(numbers))
+            }
+            Call::WriteSupport { numbers, file, fill } => {
+                write!(to, "write-support numbers={} file={file} fill={fill}", commas(numbers))
             }
             Call::Read { file, fill } => write!(to, "read file={} fill={fill}", hex(file)),
         }
     }
+}
+
+fn commas(numbers: &[u32]) -> String {
+    numbers.iter().map(u32::to_string).collect::<Vec<String>>().join(",")
 }
 
 fn hex(bytes: &[u8]) -> String {
@@ -36,7 +43,7 @@ fn hex(bytes: &[u8]) -> String {
 
 /// A call from the words that `Display` gives.
 pub fn parse(words: &[&str]) -> Result<Call, String> {
-    let (kind, rest) = words.split_first().ok_or("no call given: verdict, write or read")?;
+    let (kind, rest) = words.split_first().ok_or("no call given: verdict, write, write-support or read")?;
     match *kind {
         "verdict" => {
             let [sheet, file, report, fill] = values(rest, ["sheet", "file", "report", "fill"])?;
@@ -44,13 +51,17 @@ pub fn parse(words: &[&str]) -> Result<Call, String> {
         }
         "write" => {
             let [numbers, file, fill] = values(rest, ["numbers", "file", "fill"])?;
-            Ok(Call::Write { numbers: twenty_five(numbers)?, file: length(file)?, fill: number(fill)? })
+            Ok(Call::Write { numbers: all(numbers)?, file: length(file)?, fill: number(fill)? })
+        }
+        "write-support" => {
+            let [numbers, file, fill] = values(rest, ["numbers", "file", "fill"])?;
+            Ok(Call::WriteSupport { numbers: all(numbers)?, file: length(file)?, fill: number(fill)? })
         }
         "read" => {
             let [file, fill] = values(rest, ["file", "fill"])?;
             Ok(Call::Read { file: unhex(file)?, fill: number(fill)? })
         }
-        other => Err(format!("'{other}' is no call: verdict, write or read")),
+        other => Err(format!("'{other}' is no call: verdict, write, write-support or read")),
     }
 }
 
@@ -86,7 +97,7 @@ fn length(text: &str) -> Result<usize, String> {
     }
 }
 
-fn twenty_five(text: &str) -> Result<[u32; 25], String> {
+fn all<const N: usize>(text: &str) -> Result<[u32; N], String> {
     let numbers: Result<Vec<u32>, String> = text.split(',').map(number).collect();
-    numbers?.try_into().map_err(|_| "a job has 25 numbers, with commas between them".to_string())
+    numbers?.try_into().map_err(|_| format!("the call takes {N} numbers, with commas between them"))
 }

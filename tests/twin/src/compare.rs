@@ -15,11 +15,14 @@ unsafe extern "C" {
         report_len: usize,
     ) -> u64;
     fn rembilung_write_job(numbers: *const u32, file: *mut u8, file_len: usize) -> u64;
+    fn rembilung_write_support(numbers: *const u32, file: *mut u8, file_len: usize) -> u64;
     fn rembilung_read_job(file: *const u8, file_len: usize, numbers: *mut u32) -> u64;
 }
 
 /// Bytes on each side of what is lent; they must stay as they were.
 const GUARD: usize = 24;
+/// The same in numbers of four bytes.
+const BESIDE: usize = GUARD / 4;
 
 /// What a call returned, what was lent for writing with its guards, and what was lent for reading with its guards.
 #[derive(Clone, PartialEq)]
@@ -60,19 +63,26 @@ pub fn library(call: &Call) -> Answer {
     answer(call, &LIBRARY)
 }
 
-/// The three calls of one side.
+/// The four calls of one side.
 struct Side {
     verdict: fn(&[u8], &[u8], &mut [u8]) -> u64,
     write_job: fn(&[u32; 25], &mut [u8]) -> u64,
+    write_support: fn(&[u32; 13], &mut [u8]) -> u64,
     read_job: fn(&[u8], &mut [u32; 25]) -> u64,
 }
 
-const TWIN: Side = Side { verdict: calls::verdict, write_job: calls::write_job, read_job: calls::read_job };
+const TWIN: Side = Side {
+    verdict: calls::verdict,
+    write_job: calls::write_job,
+    write_support: calls::write_support,
+    read_job: calls::read_job,
+};
 
 // A slice's pointer is never null and its length is that of one lent buffer, as the header asks.
 const LIBRARY: Side = Side {
     verdict: library_verdict,
     write_job: |numbers, lent| unsafe { rembilung_write_job(numbers.as_ptr(), lent.as_mut_ptr(), lent.len()) },
+    write_support: |numbers, lent| unsafe { rembilung_write_support(numbers.as_ptr(), lent.as_mut_ptr(), lent.len()) },
     read_job: |file, lent| unsafe { rembilung_read_job(file.as_ptr(), file.len(), lent.as_mut_ptr()) },
 };
 
@@ -92,24 +102,42 @@ fn answer(call: &Call, side: &Side) -> Answer {
             let returned = (side.verdict)(inside(&first), inside(&second), lent);
             Answer { returned, written, read: black_box([first, second]).concat() }
         }
-        Call::Write { numbers, file, fill } => {
-            let mut written = Random::new(*fill, 0).bytes(file + 2 * GUARD);
-            let numbers = Box::new(*numbers);
-            let returned = (side.write_job)(&numbers, &mut written[GUARD..GUARD + file]);
-            let read = black_box(numbers).iter().flat_map(|number| number.to_le_bytes()).collect();
-            Answer { returned, written, read }
-        }
+        Call::Write { numbers, file, fill } => written(side.write_job, numbers, *file, *fill),
+        Call::WriteSupport { numbers, file, fill } => written(side.write_support, numbers, *file, *fill),
         Call::Read { file, fill } => {
             let mut random = Random::new(*fill, 0);
-            let mut numbers: Vec<u32> = (0..25 + 2 * GUARD / 4).map(|_| random.next() as u32).collect();
+            let mut numbers = some_numbers(25, &mut random);
             let first = guarded(file, &mut random);
-            let lent =
-                <&mut [u32; 25]>::try_from(&mut numbers[GUARD / 4..GUARD / 4 + 25]).expect("25 numbers are lent");
+            let lent = <&mut [u32; 25]>::try_from(&mut numbers[BESIDE..BESIDE + 25]).expect("25 numbers are lent");
             let returned = (side.read_job)(inside(&first), lent);
-            let written = numbers.iter().flat_map(|number| number.to_le_bytes()).collect();
-            Answer { returned, written, read: black_box(first) }
+            Answer { returned, written: to_bytes(&numbers), read: black_box(first) }
         }
     }
+}
+
+/// The answer of a call that writes a file.
+fn written<const N: usize>(
+    call: fn(&[u32; N], &mut [u8]) -> u64,
+    numbers: &[u32; N],
+    file: usize,
+    fill: u64,
+) -> Answer {
+    let mut random = Random::new(fill, 0);
+    let mut written = random.bytes(file + 2 * GUARD);
+    let mut around = some_numbers(N, &mut random);
+    around[BESIDE..BESIDE + N].copy_from_slice(numbers);
+    let lent = <&[u32; N]>::try_from(&around[BESIDE..BESIDE + N]).expect("as many numbers are lent");
+    let returned = call(lent, &mut written[GUARD..GUARD + file]);
+    Answer { returned, written, read: to_bytes(&black_box(around)) }
+}
+
+/// Pseudo-random numbers: as many as are lent, and the guards.
+fn some_numbers(count: usize, random: &mut Random) -> Vec<u32> {
+    (0..count + 2 * BESIDE).map(|_| random.next() as u32).collect()
+}
+
+fn to_bytes(numbers: &[u32]) -> Vec<u8> {
+    numbers.iter().flat_map(|number| number.to_le_bytes()).collect()
 }
 
 fn guarded(bytes: &[u8], random: &mut Random) -> Vec<u8> {

@@ -20,6 +20,7 @@ pub fn cell(group: &'static str, key: [u32; 4]) -> Cell {
 pub enum Expect {
     Anything,
     Success,
+    Length(u64),
     Number(u64),
     Refusal(u64, u64),
     Verdict(usize, u8),
@@ -34,6 +35,7 @@ impl Expect {
         match self {
             Expect::Anything => true,
             Expect::Success => answer.refusal() == 0,
+            Expect::Length(length) => answer.returned == length,
             Expect::Number(number) => answer.refusal() == number,
             Expect::Refusal(number, place) => (answer.refusal(), answer.place()) == (number, place),
             Expect::Verdict(check, verdict) => report.is_some_and(|report| report.verdict(check) == verdict),

@@ -1,14 +1,15 @@
-//! Demand 3 on the library's own reports: pairs of jobs, and one job at several heights.
+//! Demand 3 on the library's own reports: pairs of jobs, and one job at several heights. Pairs of supports beside them.
 
 use crate::call::Call;
-use crate::paper::file;
+use crate::paper::file::{self, Content};
 use crate::reading::Report;
 
-/// What the first half breaks, if anything: what fails for the first job has to fail for the second.
+/// What a pair breaks, if anything: what fails for the first has to fail for the second.
+/// Of supports this is request 2/14's; of scaffold jobs it is the first half of demand 3, which adds the heights.
 pub fn pair_fault(first: &Report, second: &Report) -> Option<String> {
     let check = (1..=11).find(|&check| first.verdict(check) == 2 && second.verdict(check) != 2);
     if let Some(check) = check {
-        return Some(format!("demand 3: check {check} fails for the first job and not for the second"));
+        return Some(format!("pair: check {check} fails for the first and not for the second"));
     }
     // None counts as below 0, and stands so in the order of options.
     let (one, other) = (first.stability, second.stability);
@@ -30,7 +31,10 @@ pub fn heights_fault(calls: &[(&Call, Report)]) -> Option<String> {
 
 fn height(call: &Call) -> Option<u32> {
     match call {
-        Call::Verdict { file, .. } => file::read(file).ok().map(|job| job.field(7)),
+        Call::Verdict { file, .. } => match file::read(file) {
+            Ok(Content::Job(job)) => Some(job.field(7)),
+            _ => None,
+        },
         _ => None,
     }
 }

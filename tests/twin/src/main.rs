@@ -1,4 +1,4 @@
-//! The twin of the library: document 01 written out on its own, and the run that compares the two call by call.
+//! The twin of the library: the papers written out on their own, and the run that compares the two call by call.
 
 mod answers;
 mod call;
@@ -98,7 +98,7 @@ fn one_call(call: &Call) -> bool {
     library == twin
 }
 
-/// Demand 3 once more on the calls of a turn.
+/// Demand 3, or what a pair of supports has to keep, once more on the calls of a turn.
 fn related(calls: &[Call], is_pair: bool) -> Result<bool, String> {
     let mut reports = Vec::new();
     for call in calls {
@@ -108,11 +108,18 @@ fn related(calls: &[Call], is_pair: bool) -> Result<bool, String> {
         reports.push((call, report.ok_or("a call was not answered with a report")?));
     }
     let fault = match (is_pair, reports.as_slice()) {
-        (true, [first, second]) => demand3::pair_fault(&first.1, &second.1),
-        (true, _) => return Err("--pair takes two verdict calls".to_string()),
+        (true, [first, second]) if first.1.is_support == second.1.is_support => {
+            demand3::pair_fault(&first.1, &second.1)
+        }
+        (true, _) => {
+            return Err("--pair takes two verdict calls, both on scaffold jobs or both on supports".to_string());
+        }
+        (false, _) if reports.iter().any(|(_, report)| report.is_support) => {
+            return Err("--heights takes scaffold jobs: a support reports no height".to_string());
+        }
         (false, _) => demand3::heights_fault(&reports),
     };
-    println!("{}", fault.as_deref().unwrap_or("demand 3 holds"));
+    println!("{}", fault.as_deref().unwrap_or("what is asked of them holds"));
     Ok(fault.is_none())
 }
 

@@ -10,13 +10,14 @@ use crate::paper::calls;
 use crate::paper::file::groups;
 use crate::paper::fraction::d;
 use crate::paper::heights::permitted;
-use crate::paper::job::Job;
+use crate::paper::job::{Fields, Job};
 use crate::paper::sheet::Sheet;
 use std::collections::BTreeMap;
 
 /// Job J.
-pub const J: Job =
-    Job([1, 1, 105, 150, 180, 2, 3000, 3, 4, 2, 3000, 5000, 0, 300, 300, 1000, 1, 200, 1, 240, 1, 8000, 4, 200, 2000]);
+pub const J: Job = Fields([
+    1, 1, 105, 150, 180, 2, 3000, 3, 4, 2, 3000, 5000, 0, 300, 300, 1000, 1, 200, 1, 240, 1, 8000, 4, 200, 2000,
+]);
 
 const REPORT_OF_J: &str = "1 1 477521\n2 1 1584\n3 1 571785\n4 1 2777\n5 1 4160\n6 1 171\n7 1 20093\n8 0 19030\n\
 9 1 5953\n10 1 20093\n11 2 20093\nheight 3277 3173\nwind 42 24291\ncolumn 1974\n";

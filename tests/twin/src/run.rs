@@ -6,7 +6,8 @@ use crate::coverage::Table;
 use crate::demand3::{heights_fault, pair_fault};
 use crate::inputs::required::refusal_cell;
 use crate::inputs::{Lists, Planned, Relation, Turn, block, block_length};
-use crate::paper::{file, heights, sheet};
+use crate::paper::file::{self, Content};
+use crate::paper::{heights, sheet};
 use crate::reading::{self, Report};
 use std::sync::Mutex;
 use std::sync::atomic::{AtomicU64, Ordering};
@@ -91,7 +92,7 @@ fn take(turn: &Turn, first: u64, found: &Found, table: &mut Table, scans: &mut u
         }
         let report = count(planned, &library, table);
         reports.extend(report.map(|report| (&planned.call, report)));
-        if let Some(report) = report.filter(|_| number % SCAN_EVERY == 0) {
+        if let Some(report) = report.filter(|report| number % SCAN_EVERY == 0 && !report.is_support) {
             *scans += 1;
             scan_fault(&planned.call, &report).into_iter().for_each(|text| found.add(number, text));
         }
@@ -99,7 +100,7 @@ fn take(turn: &Turn, first: u64, found: &Found, table: &mut Table, scans: &mut u
     let fault = match turn.relation {
         Relation::Nothing => None,
         Relation::Pair if reports.len() == 2 => pair_fault(&reports[0].1, &reports[1].1).map(|fault| ("--pair", fault)),
-        Relation::Pair => Some(("--pair", "demand 3: a job of a pair was not accepted".to_string())),
+        Relation::Pair => Some(("--pair", "pair: one of the two was not accepted".to_string())),
         Relation::Heights => heights_fault(&reports).map(|fault| ("--heights", fault)),
     };
     if let Some((option, fault)) = fault {
@@ -113,7 +114,7 @@ const SCAN_EVERY: u64 = 701;
 
 fn scan_fault(call: &Call, report: &Report) -> Option<String> {
     let Call::Verdict { sheet, file, .. } = call else { return None };
-    let (sheet, job) = (sheet::read(sheet).ok()?, file::read(file).ok()?);
+    let (sheet, Content::Job(job)) = (sheet::read(sheet).ok()?, file::read(file).ok()?) else { return None };
     let (greatest, passing) = heights::stability_by_scan(&job, &sheet);
     let bisected = heights::stability(&job, &sheet);
     let through = greatest.map_or(0, |height| height as usize + 1);
@@ -126,11 +127,7 @@ fn scan_fault(call: &Call, report: &Report) -> Option<String> {
 
 /// Counts the cells that the library's answer fills; gives the report where it is one.
 fn count(planned: &Planned, library: &Answer, table: &mut Table) -> Option<Report> {
-    let (kind, is_report) = match planned.call {
-        Call::Verdict { .. } => (0, library.refusal() == 0),
-        Call::Write { .. } => (1, false),
-        Call::Read { .. } => (2, false),
-    };
+    let is_report = matches!(planned.call, Call::Verdict { .. }) && library.refusal() == 0;
     let report = if is_report { reading::read(library.bytes()) } else { None };
     for &(cell, expect) in &planned.cells {
         if expect.is_met(library, report.as_ref()) {
@@ -138,9 +135,31 @@ fn count(planned: &Planned, library: &Answer, table: &mut Table) -> Option<Repor
         }
     }
     if library.refusal() != 0 {
-        table.count(refusal_cell(kind, library.refusal(), library.place()));
+        table.count(refusal_cell(kind(&planned.call), library.refusal(), library.place()));
     }
     report
+}
+
+/// The kinds of calls by which refusals are counted: on scaffold jobs 0 verdict, 1 write, 2 read, on supports 3 to 5.
+fn kind(call: &Call) -> u32 {
+    match call {
+        Call::Verdict { file, .. } => {
+            if file.first() == Some(&3) {
+                3
+            } else {
+                0
+            }
+        }
+        Call::Write { .. } => 1,
+        Call::WriteSupport { .. } => 4,
+        Call::Read { file, .. } => {
+            if file.first() == Some(&3) {
+                5
+            } else {
+                2
+            }
+        }
+    }
 }
 
 /// The differing call in words by which it can be run again, and what each side gave.

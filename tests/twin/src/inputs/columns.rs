@@ -2,7 +2,7 @@
 
 use crate::paper::figures::{column_tenths, unrounded_column_slenderness};
 use crate::paper::fraction::{Fraction, d};
-use crate::paper::job::Job;
+use crate::paper::job::{Fields, Job};
 use std::collections::BTreeMap;
 
 /// Family, tube, spacing, tie interval and step: all that a pole's slenderness goes by.
@@ -14,7 +14,7 @@ pub fn with_column(job: &Job, [family, tube, spacing, interval, step]: Column) -
 }
 
 pub fn job_of(column: Column) -> Job {
-    with_column(&Job([1; 25]), column)
+    with_column(&Fields([1; 25]), column)
 }
 
 pub fn spacings(family: u32) -> Vec<u32> {
@@ -39,7 +39,10 @@ pub fn tenths(column: Column) -> u32 {
 
 /// Where the sheet is read: the entry before Z and the tenths past it; none above 250.
 pub fn place(job: &Job) -> Option<(usize, u32)> {
-    let tenths = column_tenths(job) as u32;
+    place_at(column_tenths(job) as u32)
+}
+
+pub fn place_at(tenths: u32) -> Option<(usize, u32)> {
     (tenths <= 2_500).then_some((tenths as usize / 10, tenths % 10))
 }
 
@@ -71,13 +74,27 @@ fn shows(feature: u32, z: Fraction) -> bool {
     }
 }
 
-/// Family, tube and feature, with every column that shows it; what no column shows is not there.
-pub fn featured() -> BTreeMap<[u32; 3], Vec<Column>> {
-    let mut found: BTreeMap<[u32; 3], Vec<Column>> = BTreeMap::new();
-    for column in all() {
-        let z = unrounded_column_slenderness(&job_of(column));
+/// Something found for a family, a tube and a feature, a side or a relation; what nothing shows is not there.
+pub type Found<T> = BTreeMap<[u32; 3], Vec<T>>;
+
+/// Columns of any kind with their family, their tube and their unrounded slenderness.
+type Measured<C> = Vec<([u32; 2], C, Fraction)>;
+
+fn measured() -> Measured<Column> {
+    let measure = |column: Column| ([column[0], column[1]], column, unrounded_column_slenderness(&job_of(column)));
+    all().into_iter().map(measure).collect()
+}
+
+/// Family, tube and feature, with every column that shows it.
+pub fn featured() -> Found<Column> {
+    by_feature(&measured())
+}
+
+pub fn by_feature<C: Copy>(columns: &Measured<C>) -> Found<C> {
+    let mut found = Found::new();
+    for &([family, tube], column, z) in columns {
         for feature in (0..FEATURES).filter(|&feature| shows(feature, z)) {
-            found.entry([column[0], column[1], feature]).or_default().push(column);
+            found.entry([family, tube, feature]).or_insert_with(Vec::new).push(column);
         }
     }
     found
@@ -88,12 +105,15 @@ pub const UP_TO: u32 = 0;
 pub const ABOVE: u32 = 1;
 
 /// Family, tube and side, with every column nearest to the joint on that side.
-pub fn beside_joint() -> BTreeMap<[u32; 3], Vec<Column>> {
-    let mut found: BTreeMap<[u32; 3], (Fraction, Vec<Column>)> = BTreeMap::new();
-    for column in all() {
-        let z = unrounded_column_slenderness(&job_of(column));
+pub fn beside_joint() -> Found<Column> {
+    by_joint(&measured())
+}
+
+pub fn by_joint<C: Copy>(columns: &Measured<C>) -> Found<C> {
+    let mut found: BTreeMap<[u32; 3], (Fraction, Vec<C>)> = BTreeMap::new();
+    for &([family, tube], column, z) in columns {
         let (side, distance) = if z <= d!(250) { (UP_TO, d!(250) - z) } else { (ABOVE, z - d!(250)) };
-        let (least, nearest) = found.entry([column[0], column[1], side]).or_insert((distance, Vec::new()));
+        let (least, nearest) = found.entry([family, tube, side]).or_insert((distance, Vec::new()));
         if distance < *least {
             *least = distance;
             nearest.clear();
@@ -116,7 +136,7 @@ pub const ACROSS: u32 = 3;
 /// Unequally slender within one interval, not both at its ends.
 pub const INSIDE: u32 = 4;
 
-fn relation(first: u32, second: u32) -> Option<u32> {
+pub fn relation(first: u32, second: u32) -> Option<u32> {
     let (k, next) = (first / 10, second / 10);
     let at_entries = (first.is_multiple_of(10), second.is_multiple_of(10));
     match (first <= 2_500, second <= 2_500) {
@@ -141,12 +161,12 @@ fn no_milder([family, tube, spacing, interval, step]: Column) -> Vec<Column> {
 
 /// Family, tube and relation, with every pair of columns at most one step apart that stand so.
 /// No field makes a pole less slender, so that columns several steps apart are no nearer to each other.
-pub fn pairs() -> BTreeMap<[u32; 3], Vec<(Column, Column)>> {
-    let mut found: BTreeMap<[u32; 3], Vec<(Column, Column)>> = BTreeMap::new();
+pub fn pairs() -> Found<(Column, Column)> {
+    let mut found = Found::new();
     for first in all() {
         for second in no_milder(first) {
             if let Some(relation) = relation(tenths(first), tenths(second)) {
-                found.entry([first[0], first[1], relation]).or_default().push((first, second));
+                found.entry([first[0], first[1], relation]).or_insert_with(Vec::new).push((first, second));
             }
         }
     }

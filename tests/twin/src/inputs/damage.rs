@@ -1,25 +1,31 @@
 //! The turns on what is refused or nearly so: ends of ranges, contradictions, sheets, files, buffers and several faults.
 
+use super::any_job::AnyJob;
 use super::jobs::any_accepted;
 use super::kinds::{Cells, judged, single, through};
 use super::sheets::{to_bytes, valid};
 use super::{Lists, Relation, Turn, ends, faults as faulty, files, jobs, sheets};
 use crate::call::Call;
 use crate::coverage::{Cell, Expect, cell};
-use crate::paper::job::{Job, accept};
-use crate::paper::report::report;
+use crate::paper::file;
+use crate::paper::job::Fields;
 use crate::paper::sheet::Sheet;
 use crate::random::Random;
 
-fn expected(job: &Job) -> Expect {
-    match accept(job) {
+/// What the call of a kind has to answer; a file goes by its first number, whichever kind of job wrote it.
+pub fn expected<const N: usize>(kind: u64, job: &Fields<N>) -> Expect
+where
+    Fields<N>: AnyJob,
+{
+    match if kind == 1 { job.accept() } else { file::read(&files::whole(job)).map(|_| ()) } {
         Ok(()) => Expect::Success,
         Err(refusal) => Expect::Refusal(refusal.number, refusal.place),
     }
 }
 
 pub fn wild(random: &mut Random, _: &Lists, turn: u64) -> Turn {
-    let job = jobs::wild(random);
+    let accepted = any_accepted(random);
+    let job = jobs::wild(random, accepted);
     single(through(random, turn % 3, &job), Vec::new())
 }
 
@@ -27,7 +33,7 @@ pub fn end(random: &mut Random, lists: &Lists, turn: u64) -> Turn {
     let end = lists.ends[turn as usize % lists.ends.len()];
     let kind = turn / lists.ends.len() as u64 % 3;
     let job = ends::job(random, end);
-    single(through(random, kind, &job), vec![(end_cell(end, kind as u32), expected(&job))])
+    single(through(random, kind, &job), vec![(end_cell(end, kind as u32), expected(kind, &job))])
 }
 
 pub fn end_cell(end: ends::End, kind: u32) -> Cell {
@@ -40,7 +46,7 @@ pub fn contradiction(random: &mut Random, _: &Lists, turn: u64) -> Turn {
     let job = ends::contradiction(random, number);
     single(
         through(random, kind, &job),
-        vec![(cell("contradiction or wall", [number, kind as u32, 0, 0]), expected(&job))],
+        vec![(cell("contradiction or wall", [number, kind as u32, 0, 0]), expected(kind, &job))],
     )
 }
 
@@ -80,7 +86,7 @@ pub fn sheet_length(random: &mut Random, _: &Lists, turn: u64) -> Turn {
 }
 
 /// A file through reading or through the whole call.
-fn filed(random: &mut Random, file: Vec<u8>, reads: bool) -> Call {
+pub fn filed(random: &mut Random, file: Vec<u8>, reads: bool) -> Call {
     let fill = random.next();
     match reads {
         true => Call::Read { file, fill },
@@ -92,26 +98,32 @@ fn filed(random: &mut Random, file: Vec<u8>, reads: bool) -> Call {
 pub fn broken_file(random: &mut Random, _: &Lists, turn: u64) -> Turn {
     let (number, reads) = (turn % 168, turn / 168 % 2 == 1);
     if number < 125 {
-        let (at, way, job) = (number as usize / 5, number as usize % 5, any_accepted(random));
-        let (file, offset) = files::broken(random, &job, at, way);
-        let cells = vec![(
-            cell("broken number", [at as u32, way as u32, u32::from(reads), 0]),
-            Expect::Refusal(6, offset as u64),
-        )];
-        return single(filed(random, file, reads), cells);
+        let job = any_accepted(random);
+        return broken_number(random, &job, number as usize, reads);
     }
-    let mut file = files::whole(&files::longest_job());
-    let (cut, whole) = (number as usize - 125, file.len());
+    cut_file(random, &files::longest_job(), number as usize - 125, reads)
+}
+
+/// A file broken at a number in one of the five ways.
+pub fn broken_number<const N: usize>(random: &mut Random, job: &Fields<N>, number: usize, reads: bool) -> Turn {
+    let (at, way) = (number / 5, number % 5);
+    let (file, offset) = files::broken(random, job, at, way);
+    let key = [at as u32, way as u32, u32::from(reads), N as u32];
+    single(filed(random, file, reads), vec![(cell("broken number", key), Expect::Refusal(6, offset as u64))])
+}
+
+/// A file cut at a byte, or lengthened where it has no such byte.
+pub fn cut_file<const N: usize>(random: &mut Random, job: &Fields<N>, cut: usize, reads: bool) -> Turn {
+    let mut file = files::whole(job);
+    let whole = file.len();
     let expect = if cut < whole { Expect::Number(6) } else { Expect::Refusal(7, whole as u64) };
     if cut < whole {
         file.truncate(cut);
     } else {
         file.extend_from_slice(&random.next().to_le_bytes()[..1 + random.below(8)]);
     }
-    single(
-        filed(random, file, reads),
-        vec![(cell("cut or lengthened file", [cut as u32, u32::from(reads), 0, 0]), expect)],
-    )
+    let key = [cut as u32, u32::from(reads), N as u32, 0];
+    single(filed(random, file, reads), vec![(cell("cut or lengthened file", key), expect)])
 }
 
 pub fn shaken_file(random: &mut Random, _: &Lists, turn: u64) -> Turn {
@@ -141,7 +153,7 @@ pub fn order_cell(kind: usize, first: u64, later: u64) -> Cell {
 /// Report buffers of 0 to 180 bytes; every fourth is exactly long enough or one byte too short.
 pub fn report_buffer(random: &mut Random, _: &Lists, turn: u64) -> Turn {
     let (job, sheet, fill) = (any_accepted(random), valid(random), random.next());
-    let needed = report(&job, &Sheet(sheet)).len();
+    let needed = job.report(&Sheet(sheet)).len();
     let (length, cells) = lent_length(turn, 0, needed, 181);
     single(Call::Verdict { sheet: to_bytes(&sheet), file: files::whole(&job), report: length, fill }, cells)
 }
@@ -153,7 +165,7 @@ pub fn file_buffer(random: &mut Random, _: &Lists, turn: u64) -> Turn {
     single(Call::Write { numbers: job.0, file: length, fill }, cells)
 }
 
-fn lent_length(turn: u64, kind: u32, needed: usize, lengths: u64) -> (usize, Cells) {
+pub fn lent_length(turn: u64, kind: u32, needed: usize, lengths: u64) -> (usize, Cells) {
     let short = (turn / 4 % 2) as usize;
     if turn % 4 == 3 {
         let expect = if short == 1 { Expect::Refusal(8, needed as u64) } else { Expect::Success };

@@ -1,7 +1,7 @@
 //! Every field at, just inside and just outside the ends of its range, and the contradictions and walls beside them.
 
 use super::jobs::accepted;
-use crate::paper::job::{Job, range};
+use crate::paper::job::{Fields, Job, range};
 use crate::random::Random;
 
 /// A value of a field, in a family and an enclosure.
@@ -31,7 +31,7 @@ pub fn all() -> Vec<End> {
 }
 
 fn values(field: usize, family: u32, enclosure: u32) -> Vec<u32> {
-    let job = Job([1; 25]).with(1, family).with(17, enclosure);
+    let job = Fields([1; 25]).with(1, family).with(17, enclosure);
     let (low, high) = (*range(&job, field).start(), *range(&job, field).end());
     let mut values = vec![low, low + 1, high - 1, high, high + 1, u32::MAX];
     values.extend(low.checked_sub(1));

@@ -1,28 +1,27 @@
 //! Jobs at which a check's compared quantities are equal, and exhaustive searches for those that can't be.
 
-use super::columns::{self, Column, job_of, place, spacings};
+use super::columns::{self, Column, Found, job_of, place, spacings};
 use super::jobs::accepted;
 use super::sheets::{neighbours, through, valid};
 use super::tuned::{Aim, bisect, near_capacity};
 use crate::paper::checks::check;
-use crate::paper::constants::{STRENGTH, tube};
+use crate::paper::constants::{STRENGTH, Tube, tube};
 use crate::paper::figures;
 use crate::paper::fraction::{Fraction, d};
-use crate::paper::job::Job;
+use crate::paper::job::{Fields, Job};
 use crate::paper::sheet::Sheet;
 use crate::random::Random;
-use std::collections::BTreeMap;
 
 /// What the searches found once, before any call is made.
 pub struct Atlas {
     /// For each aim of checks 1 to 5, jobs whose unrounded figure is exactly the limit.
     pub exact: Vec<Vec<Job>>,
     /// Family, tube and feature: the columns whose slenderness shows it.
-    pub featured: BTreeMap<[u32; 3], Vec<Column>>,
+    pub featured: Found<Column>,
     /// Family, tube and side of 250: the columns nearest to it.
-    pub joint: BTreeMap<[u32; 3], Vec<Column>>,
+    pub joint: Found<Column>,
     /// Family, tube and relation: pairs of columns, the second no milder.
-    pub pairs: BTreeMap<[u32; 3], Vec<(Column, Column)>>,
+    pub pairs: Found<(Column, Column)>,
     /// For each family and tube, jobs and sheets at the very limit of check 8 in wind; true where φ is no thousandth.
     pub windy: Vec<(bool, Job, Sheet)>,
     /// Step and bay, t = 3, with the greatest face of at most 30 m² and the least beyond it.
@@ -53,7 +52,7 @@ pub fn face_has_equality() -> bool {
 fn face_jobs() -> impl Iterator<Item = (Job, Fraction)> {
     (2..=3).flat_map(|interval| (60..=200).flat_map(move |step| (60..=200).map(move |bay| (interval, step, bay)))).map(
         |(interval, step, bay)| {
-            let job = Job([1; 25]).with(6, interval).with(5, step).with(4, bay);
+            let job = Fields([1; 25]).with(6, interval).with(5, step).with(4, bay);
             (job, figures::tie_face(&job))
         },
     )
@@ -181,14 +180,18 @@ fn at_limit_in_wind(random: &mut Random, aim: Aim, fine: bool) -> Option<(Job, S
 
 /// The least φ in ten-thousandths that bears the job without nets, φA(f − Mw/W) being a whole number of newtons.
 fn whole_in_wind(job: &Job) -> Option<u32> {
-    let moment = Fraction::whole(figures::wind_moment(job));
-    let left = STRENGTH - moment / tube(job).modulus;
-    if moment == d!(0) || left <= d!(0) {
+    let least = figures::pole_force_in_wind(&job.with(13, 0), job.field(7));
+    whole_factor(tube(job), figures::wind_moment(job), least)
+}
+
+/// The least φ in ten-thousandths that bears the force beside the moment, φA(f − Mw/W) being a whole number of newtons.
+pub fn whole_factor(tube: Tube, moment: i128, force: i128) -> Option<u32> {
+    let left = STRENGTH - Fraction::whole(moment) / tube.modulus;
+    if moment == 0 || left <= d!(0) {
         return None;
     }
-    let each = tube(job).area * left / d!(10_000);
+    let each = tube.area * left / d!(10_000);
     let step = Fraction::whole(each.least_multiplier());
-    let force = Fraction::whole(figures::pole_force_in_wind(&job.with(13, 0), job.field(7)));
-    let factor = Fraction::whole((force / each / step).up()) * step;
+    let factor = Fraction::whole((Fraction::whole(force) / each / step).up()) * step;
     (factor <= d!(10_000)).then(|| factor.up() as u32)
 }

@@ -4,7 +4,7 @@ use super::files::whole;
 use super::jobs::accepted;
 use super::sheets::{damaged, to_bytes};
 use crate::call::Call;
-use crate::paper::job::Job;
+use crate::paper::job::{Fields, Job};
 use crate::random::Random;
 
 /// The refusals in the order of the whole call; reading and writing keep this order for those they know.
@@ -51,7 +51,7 @@ fn job(random: &mut Random, outside: bool, contradicts: bool, bad_wall: bool) ->
     if outside { job.with(random.pick(&[2, 4, 5, 6, 8, 14, 16, 19, 22, 23, 24, 25]), 0) } else { job }
 }
 
-fn sheet(random: &mut Random, wrong_length: bool, bad_entry: bool) -> Vec<u8> {
+pub fn sheet(random: &mut Random, wrong_length: bool, bad_entry: bool) -> Vec<u8> {
     let k = random.within(1, 100) as usize;
     let fault = if bad_entry { random.below(3) } else { 3 };
     let mut bytes = match bad_entry {
@@ -64,8 +64,8 @@ fn sheet(random: &mut Random, wrong_length: bool, bad_entry: bool) -> Vec<u8> {
     bytes
 }
 
-fn file(random: &mut Random, job: &Job, faults: &[u64]) -> Vec<u8> {
-    let number = random.below(25);
+pub fn file<const N: usize>(random: &mut Random, job: &Fields<N>, faults: &[u64]) -> Vec<u8> {
+    let number = random.below(N);
     let way = random.below(5);
     let mut bytes = match faults.contains(&6) {
         true => super::files::broken(random, job, number, way).0,

@@ -1,24 +1,24 @@
 //! Job files: whole ones, and ones broken at a chosen number or byte.
 
 use crate::paper::file::groups;
-use crate::paper::job::Job;
+use crate::paper::job::{Fields, Job};
 use crate::random::Random;
 
-pub fn whole(job: &Job) -> Vec<u8> {
+pub fn whole<const N: usize>(job: &Fields<N>) -> Vec<u8> {
     job.0.iter().flat_map(|&number| groups(number)).collect()
 }
 
 /// A job whose file has 42 bytes, the most that an accepted job takes.
 pub fn longest_job() -> Job {
-    Job([
+    Fields([
         1, 1, 130, 150, 180, 2, 3000, 3, 4, 2, 3000, 16_384, 128, 300, 300, 1000, 1, 200, 1, 240, 1, 16_384, 4, 200,
         2000,
     ])
 }
 
-/// A file broken at one number, 0 to 24, and the offset of that number's first byte.
+/// A file broken at one number, 0 to 24 or to 12, and the offset of that number's first byte.
 /// Ways: 0 cut before it, 1 cut inside it, 2 not shortest, 3 too great, 4 six bytes.
-pub fn broken(random: &mut Random, job: &Job, number: usize, way: usize) -> (Vec<u8>, usize) {
+pub fn broken<const N: usize>(random: &mut Random, job: &Fields<N>, number: usize, way: usize) -> (Vec<u8>, usize) {
     let mut bytes: Vec<u8> = job.0[..number].iter().flat_map(|&number| groups(number)).collect();
     let offset = bytes.len();
     let rest: Vec<u8> = job.0[number + 1..].iter().flat_map(|&number| groups(number)).collect();
@@ -54,7 +54,7 @@ fn overlong(random: &mut Random, value: u32) -> Vec<u8> {
 }
 
 /// A file with other damage: bits turned, bytes put in or left out, random bytes, five-byte numbers, or nothing at all.
-pub fn shaken(random: &mut Random, job: &Job) -> Vec<u8> {
+pub fn shaken<const N: usize>(random: &mut Random, job: &Fields<N>) -> Vec<u8> {
     let mut bytes = whole(job);
     match random.below(7) {
         0 => {
@@ -67,7 +67,7 @@ pub fn shaken(random: &mut Random, job: &Job) -> Vec<u8> {
             let length = random.below(130);
             bytes = random.bytes(length);
         }
-        4 => bytes = (0..25 + random.below(3)).flat_map(|_| groups(random.next() as u32)).collect(),
+        4 => bytes = (0..N + random.below(3)).flat_map(|_| groups(random.next() as u32)).collect(),
         5 => bytes.extend_from_slice(&whole(job)),
         _ => {
             let length = random.below(60);

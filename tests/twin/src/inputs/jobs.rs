@@ -1,22 +1,27 @@
 //! Jobs: accepted ones, heavier ones for demand 3, and ones of any numbers.
 
 use crate::paper::constants::soil_factor;
-use crate::paper::job::{Job, range};
+use crate::paper::job::{Fields, Job, range};
 use crate::random::Random;
+use std::ops::RangeInclusive;
 
 const SPACINGS: [u32; 3] = [105, 130, 155];
 
 /// An accepted job of a family, a tube and an enclosure; its fields lean to the low end at times.
 pub fn accepted(random: &mut Random, family: u32, tube: u32, enclosure: u32) -> Job {
     let lean = random.pick(&[1, 1, 2, 4]);
-    let mut job = Job([0; 25]).with(1, family).with(2, tube).with(17, enclosure);
+    let mut job = Fields([0; 25]).with(1, family).with(2, tube).with(17, enclosure);
     for field in (3..=25).filter(|&field| field != 17) {
-        let range = range(&job, field);
-        let span = f64::from(range.end() - range.start()) + 0.999;
-        let share = (random.next() >> 11) as f64 / (1u64 << 53) as f64;
-        job = job.with(field, range.start() + (span * share.powi(lean)) as u32);
+        job = job.with(field, leaning(random, range(&job, field), lean));
     }
     repaired(random, job)
+}
+
+/// A value of a range, the nearer to its low end the greater the power; uniform where that is 1.
+pub fn leaning(random: &mut Random, range: RangeInclusive<u32>, power: i32) -> u32 {
+    let span = f64::from(range.end() - range.start()) + 0.999;
+    let share = (random.next() >> 11) as f64 / (1u64 << 53) as f64;
+    range.start() + (span * share.powi(power)) as u32
 }
 
 /// An accepted job of any family, tube and enclosure.
@@ -36,13 +41,12 @@ fn repaired(random: &mut Random, mut job: Job) -> Job {
     job.with(12, job.field(12).max(job.field(11)))
 }
 
-/// 25 numbers of any size, now and then in range.
-pub fn wild(random: &mut Random) -> Job {
-    let job = any_accepted(random);
-    let many = random.pick(&[1, 2, 25]);
+/// The job with one, two or many numbers of any size, now and then in range.
+pub fn wild<const N: usize>(random: &mut Random, job: Fields<N>) -> Fields<N> {
+    let many = random.pick(&[1, 2, N]);
     (0..many).fold(job, |job, _| {
         let width = random.within(1, 32);
-        job.with(random.within(1, 25) as usize, (random.next() as u32) >> (32 - width))
+        job.with(random.within(1, N as u32) as usize, (random.next() as u32) >> (32 - width))
     })
 }
 
@@ -86,7 +90,7 @@ pub fn heavier(random: &mut Random, first: &Job) -> Job {
 
 fn with_free_fields(random: &mut Random, job: Job, first: &Job) -> Job {
     let soil = random.within(1, 5);
-    let weaker = soil_factor(&job.with(23, soil)) <= soil_factor(first);
+    let weaker = soil_factor(soil) <= soil_factor(first.field(23));
     let job = if weaker { job.with(23, soil) } else { job };
     let (thinnest, thickest) = bounds(&job, 20);
     let (lowest, highest) = bounds(&job, 21);
@@ -94,7 +98,7 @@ fn with_free_fields(random: &mut Random, job: Job, first: &Job) -> Job {
 }
 
 // One step in most cases, so that pairs stay near a limit.
-fn farther(random: &mut Random, value: u32, most: u32) -> u32 {
+pub fn farther(random: &mut Random, value: u32, most: u32) -> u32 {
     match random.once_in(4) {
         true => random.within(value, most),
         false => (value + 1).min(most),

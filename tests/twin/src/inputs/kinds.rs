@@ -1,15 +1,16 @@
 //! The turns on accepted jobs: uniform, tuned, special heights, and demand 3's pairs and heights.
 
+use super::any_job::AnyJob;
 use super::exact::at_limit as job_at_limit;
 use super::jobs::{accepted, any_accepted, bounds, heavier};
 use super::sheets::{Entries, valid};
-use super::tuned::{Aim, around, at_stability, bisect, edge, is_between, near_capacity};
+use super::tuned::{Aim, Edge, around, at_stability, bisect, edge, is_between, near_capacity};
 use super::{Lists, Planned, Relation, Turn, files, verdict};
 use crate::call::Call;
 use crate::coverage::{Cell, Expect, cell};
 use crate::paper::checks::check;
 use crate::paper::heights::stability as stability_height;
-use crate::paper::job::Job;
+use crate::paper::job::Fields;
 use crate::paper::sheet::Sheet;
 use crate::random::Random;
 
@@ -19,19 +20,26 @@ pub fn single(call: Call, cells: Cells) -> Turn {
     Turn { calls: vec![Planned { call, cells }], relation: Relation::Nothing }
 }
 
-pub fn judged(random: &mut Random, job: &Job, sheet: &Entries, cells: Cells) -> Planned {
+pub fn judged<const N: usize>(random: &mut Random, job: &Fields<N>, sheet: &Entries, cells: Cells) -> Planned
+where
+    Fields<N>: AnyJob,
+{
     Planned { call: verdict(random, job, sheet), cells }
 }
 
 /// A job through one of the three calls: 0 verdict, 1 write, 2 read.
-pub fn through(random: &mut Random, kind: u64, job: &Job) -> Call {
+pub fn through<const N: usize>(random: &mut Random, kind: u64, job: &Fields<N>) -> Call
+where
+    Fields<N>: AnyJob,
+{
+    let most = Fields::<N>::FILE_MOST;
     let fill = random.next();
     match kind {
         0 => {
             let sheet = valid(random);
             verdict(random, job, &sheet)
         }
-        1 => Call::Write { numbers: job.0, file: random.within(42, 48) as usize, fill },
+        1 => job.write(random.within(most, most + 6) as usize, fill),
         _ => Call::Read { file: files::whole(job), fill },
     }
 }
@@ -57,10 +65,18 @@ pub fn limit_cell(aim: Aim, side: u32) -> Cell {
 /// The last job that passes, the first that fails, and one step to each side.
 pub fn tuned(random: &mut Random, _: &Lists, turn: u64) -> Turn {
     let aim = Aim::number(turn);
-    let Some(edge) = edge(random, aim) else {
-        return Turn { calls: (0..4).map(|_| plain(random)).collect(), relation: Relation::Nothing };
-    };
-    let jobs = around(&edge);
+    match edge(random, aim) {
+        Some(edge) => around_limit(random, aim, &edge),
+        None => Turn { calls: (0..4).map(|_| plain(random)).collect(), relation: Relation::Nothing },
+    }
+}
+
+/// The calls on the four jobs around an edge.
+pub fn around_limit<const N: usize>(random: &mut Random, aim: Aim, edge: &Edge<N>) -> Turn
+where
+    Fields<N>: AnyJob,
+{
+    let jobs = around(edge);
     let passes = Expect::Verdict(aim.check, 1);
     let fails = Expect::Verdict(aim.check, 2);
     let mut last = vec![(limit_cell(aim, LAST_PASS), passes)];
@@ -71,6 +87,18 @@ pub fn tuned(random: &mut Random, _: &Lists, turn: u64) -> Turn {
     let cells = [Vec::new(), last, first, Vec::new()];
     let calls = jobs.iter().zip(cells).map(|(job, cells)| judged(random, job, &edge.sheet.0, cells)).collect();
     Turn { calls, relation: Relation::Nothing }
+}
+
+/// The last job that passes and the first that fails, each with its cell.
+pub fn both_sides<const N: usize>(random: &mut Random, edge: &Edge<N>, check: usize, cell: impl Fn(u32) -> Cell) -> Turn
+where
+    Fields<N>: AnyJob,
+{
+    let sides = [(&edge.passing, LAST_PASS, 1), (&edge.failing, FIRST_FAIL, 2)];
+    let calls = sides.map(|(job, side, verdict)| {
+        judged(random, job, &edge.sheet.0, vec![(cell(side), Expect::Verdict(check, verdict))])
+    });
+    Turn { calls: calls.into(), relation: Relation::Nothing }
 }
 
 /// Check, family and what governs: 150 where the span over 150 does, 10 where 10 mm do.
@@ -91,12 +119,7 @@ pub fn deflection(random: &mut Random, _: &Lists, turn: u64) -> Turn {
     let Some(edge) = edge else {
         return Turn { calls: vec![plain(random), plain(random)], relation: Relation::Nothing };
     };
-    let sides = [(&edge.passing, LAST_PASS, 1), (&edge.failing, FIRST_FAIL, 2)];
-    let calls = sides.map(|(job, side, verdict)| {
-        let cells = vec![(deflection_cell(number, family, governs, side), Expect::Verdict(number, verdict))];
-        judged(random, job, &edge.sheet.0, cells)
-    });
-    Turn { calls: calls.into(), relation: Relation::Nothing }
+    both_sides(random, &edge, number, |side| deflection_cell(number, family, governs, side))
 }
 
 pub fn deflection_cell(check: usize, family: u32, governs: u32, side: u32) -> Cell {
@@ -111,18 +134,24 @@ pub fn plain(random: &mut Random) -> Planned {
 /// A job whose compared quantities are equal.
 pub fn at_limit(random: &mut Random, _: &Lists, turn: u64) -> Turn {
     let aim = Aim::number(turn);
-    let passes = Expect::Verdict(aim.check, 1);
     let planned = match job_at_limit(random, aim) {
-        Some((job, sheet)) => {
-            let mut cells = vec![(limit_cell(aim, EQUAL), passes)];
-            if is_between(&job, &sheet) {
-                cells.push((between_cell(aim), passes));
-            }
-            judged(random, &job, &sheet.0, cells)
-        }
+        Some((job, sheet)) => equal(random, aim, &job, &sheet),
         None => plain(random),
     };
     Turn { calls: vec![planned], relation: Relation::Nothing }
+}
+
+/// The call on a job that stands at the very limit.
+pub fn equal<const N: usize>(random: &mut Random, aim: Aim, job: &Fields<N>, sheet: &Sheet) -> Planned
+where
+    Fields<N>: AnyJob,
+{
+    let passes = Expect::Verdict(aim.check, 1);
+    let mut cells = vec![(limit_cell(aim, EQUAL), passes)];
+    if is_between(job, sheet) {
+        cells.push((between_cell(aim), passes));
+    }
+    judged(random, job, &sheet.0, cells)
 }
 
 /// The compared quantities are equal and φ lies between two unequal entries.
@@ -194,10 +223,14 @@ pub fn pair(random: &mut Random, _: &Lists, turn: u64) -> Turn {
         None => (any_accepted(random), Sheet(valid(random))),
     };
     let second = heavier(random, &first);
-    let cells =
-        vec![(cell("pair at a limit", [aim.check as u32, aim.family, aim.tube, 0]), Expect::Verdict(aim.check, 2))];
+    let cells = vec![(limit_pair_cell(aim, 0), Expect::Verdict(aim.check, 2))];
     let calls = vec![judged(random, &first, &sheet.0, Vec::new()), judged(random, &second, &sheet.0, cells)];
     Turn { calls, relation: Relation::Pair }
+}
+
+/// The order of a pair is demand 3's where it is 0.
+pub fn limit_pair_cell(aim: Aim, order: u32) -> Cell {
+    cell("pair at a limit", [aim.check as u32, aim.family, aim.tube, order])
 }
 
 /// Demand 3: a job at its stability height and one above it, and at any height, where field 7 allows them.

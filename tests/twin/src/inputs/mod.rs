@@ -1,5 +1,6 @@
 //! The calls of the run: a fixed list of kinds for each block of calls, each kind taken in turn.
 
+pub mod any_job;
 pub mod columns;
 pub mod damage;
 pub mod ends;
@@ -15,8 +16,9 @@ pub mod tuned;
 
 use crate::call::Call;
 use crate::coverage::{Cell, Expect};
-use crate::paper::job::Job;
+use crate::paper::job::Fields;
 use crate::random::Random;
+use any_job::AnyJob;
 
 /// A call with the cells that it fills when the library answers as expected.
 pub struct Planned {
@@ -101,7 +103,11 @@ pub fn block(lists: &Lists, seed: u64, number: u64) -> impl Iterator<Item = Turn
 }
 
 /// The whole call on a job under a sheet, with a buffer that is long enough.
-pub fn verdict(random: &mut Random, job: &Job, sheet: &[u16; 251]) -> Call {
-    let report = random.within(168, 180) as usize;
+pub fn verdict<const N: usize>(random: &mut Random, job: &Fields<N>, sheet: &[u16; 251]) -> Call
+where
+    Fields<N>: AnyJob,
+{
+    let most = Fields::<N>::REPORT_MOST;
+    let report = random.within(most, most + 12) as usize;
     Call::Verdict { sheet: sheets::to_bytes(sheet), file: files::whole(job), report, fill: random.next() }
 }

@@ -18,8 +18,8 @@ pub fn cells(lists: &Lists) -> Vec<Cell> {
     cells.extend((0..ENTRY_FAULTS).map(entry_fault).map(|(k, fault)| entry_cell(k, fault)));
     cells.extend((0..=510).chain([1004, 502 + 65_536]).map(|length| cell("length of a sheet", [length, 0, 0, 0])));
     for reads in [0, 1] {
-        cells.extend((0..125).map(|number| cell("broken number", [number / 5, number % 5, reads, 0])));
-        cells.extend((0..43).map(|cut| cell("cut or lengthened file", [cut, reads, 0, 0])));
+        cells.extend((0..125).map(|number| cell("broken number", [number / 5, number % 5, reads, 25])));
+        cells.extend((0..43).map(|cut| cell("cut or lengthened file", [cut, reads, 25, 0])));
     }
     cells.extend((0..181).map(|length| cell("length of a buffer", [0, length, 0, 0])));
     cells.extend((0..51).map(|length| cell("length of a buffer", [1, length, 0, 0])));
@@ -38,7 +38,7 @@ fn limits(lists: &Lists) -> Vec<Cell> {
     for turn in 0..44 {
         let aim = Aim::number(turn);
         cells.extend([limit_cell(aim, LAST_PASS), limit_cell(aim, FIRST_FAIL)]);
-        cells.push(cell("pair at a limit", [aim.check as u32, aim.family, aim.tube, 0]));
+        cells.push(limit_pair_cell(aim, 0));
         if !matches!(aim.check, 2 | 4 | 6) {
             cells.push(limit_cell(aim, EQUAL));
         }

@@ -1,8 +1,8 @@
 //! The turns on the column slenderness: its tenths, the line between entries, the joint at 250, and pairs of columns.
 
-use super::columns::{ACROSS, ALIKE, place, tenths, with_column};
+use super::columns::{ACROSS, ALIKE, Found, place, tenths, with_column};
 use super::jobs::{accepted, heavier};
-use super::kinds::{FIRST_FAIL, LAST_PASS, judged, plain};
+use super::kinds::{both_sides, judged, plain};
 use super::sheets::{ending, misread};
 use super::tuned::{Aim, edge_on, near_capacity, sheet_for};
 use super::{Lists, Relation, Turn};
@@ -12,9 +12,9 @@ use crate::paper::heights::stability;
 use crate::paper::job::Job;
 use crate::paper::sheet::Sheet;
 use crate::random::Random;
-use std::collections::BTreeMap;
 
-fn in_turn<T>(found: &BTreeMap<[u32; 3], Vec<T>>, turn: u64) -> ([u32; 3], &[T]) {
+/// What was found for one key after another.
+pub fn in_turn<T>(found: &Found<T>, turn: u64) -> ([u32; 3], &[T]) {
     let (key, all) = found.iter().nth(turn as usize % found.len()).expect("the searches found some");
     (*key, all)
 }
@@ -90,11 +90,7 @@ pub fn joint(random: &mut Random, lists: &Lists, turn: u64) -> Turn {
     let Some(edge) = edge_on(random, aim, column, |random, _, _| Sheet(ending(random))) else {
         return Turn { calls: vec![plain(random), plain(random)], relation: Relation::Nothing };
     };
-    let sides = [(&edge.passing, LAST_PASS, 1), (&edge.failing, FIRST_FAIL, 2)];
-    let calls = sides.map(|(job, side, verdict)| {
-        judged(random, job, &edge.sheet.0, vec![(joint_cell(key, check, side), Expect::Verdict(check, verdict))])
-    });
-    Turn { calls: calls.into(), relation: Relation::Nothing }
+    both_sides(random, &edge, check, |side| joint_cell(key, check, side))
 }
 
 pub fn joint_cell([family, tube, beside]: [u32; 3], check: usize, side: u32) -> Cell {
