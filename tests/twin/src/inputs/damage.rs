@@ -9,6 +9,7 @@ use crate::call::Call;
 use crate::coverage::{Cell, Expect, cell};
 use crate::paper::file;
 use crate::paper::job::Fields;
+use crate::paper::refusal::Refusal;
 use crate::paper::sheet::Sheet;
 use crate::random::Random;
 
@@ -17,7 +18,18 @@ pub fn expected<const N: usize>(kind: u64, job: &Fields<N>) -> Expect
 where
     Fields<N>: AnyJob,
 {
-    match if kind == 1 { job.accept() } else { file::read(&files::whole(job)).map(|_| ()) } {
+    match kind {
+        1 => answered(job.accept()),
+        _ => expected_of_file(&files::whole(job)),
+    }
+}
+
+pub fn expected_of_file(bytes: &[u8]) -> Expect {
+    answered(file::read(bytes).map(|_| ()))
+}
+
+fn answered(result: Result<(), Refusal>) -> Expect {
+    match result {
         Ok(()) => Expect::Success,
         Err(refusal) => Expect::Refusal(refusal.number, refusal.place),
     }
@@ -137,7 +149,7 @@ pub fn faults(random: &mut Random, _: &Lists, turn: u64) -> Turn {
     let kind = (turn % 3) as usize;
     let known = faulty::KNOWN[kind];
     let faults: Vec<u64> =
-        faulty::chosen(1 + turn / 3 % 255).into_iter().filter(|fault| known.contains(fault)).collect();
+        faulty::chosen(&faulty::ORDER, 1 + turn / 3 % 255).into_iter().filter(|fault| known.contains(fault)).collect();
     let call = faulty::call(random, kind, &faults);
     let Some((&first, later)) = faults.split_first() else {
         return single(call, Vec::new());

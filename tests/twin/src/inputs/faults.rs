@@ -13,9 +13,9 @@ pub const ORDER: [u64; 8] = [1, 2, 6, 7, 3, 4, 5, 8];
 /// The refusals that each call can give: verdict, write, read.
 pub const KNOWN: [&[u64]; 3] = [&[1, 2, 6, 7, 3, 4, 5, 8], &[3, 4, 5, 8], &[6, 7, 3, 4, 5]];
 
-/// The faults of a set of bits, one for each place in ORDER; bytes after a broken number are no fault of their own.
-pub fn chosen(set: u64) -> Vec<u64> {
-    let faults: Vec<u64> = (0..8).filter(|place| set >> place & 1 == 1).map(|place| ORDER[place]).collect();
+/// The faults of a set of bits, one for each place in an order; bytes after a broken number are no fault of their own.
+pub fn chosen(order: &[u64], set: u64) -> Vec<u64> {
+    let faults: Vec<u64> = (0..order.len()).filter(|place| set >> place & 1 == 1).map(|place| order[place]).collect();
     let broken = faults.contains(&6);
     faults.into_iter().filter(|&fault| !(broken && fault == 7)).collect()
 }

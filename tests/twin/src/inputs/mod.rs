@@ -12,11 +12,18 @@ pub mod kinds;
 pub mod required;
 pub mod sheets;
 pub mod slender;
+pub mod support_columns;
+pub mod support_damage;
+pub mod support_kinds;
+pub mod support_limits;
+pub mod supports;
 pub mod tuned;
 
 use crate::call::Call;
 use crate::coverage::{Cell, Expect};
 use crate::paper::job::Fields;
+use crate::paper::sheet::Sheet;
+use crate::paper::support::Support;
 use crate::random::Random;
 use any_job::AnyJob;
 
@@ -30,7 +37,7 @@ pub struct Planned {
 #[derive(Clone, Copy, PartialEq)]
 pub enum Relation {
     Nothing,
-    /// Demand 3's first half: the second call's job is no lighter than the first's.
+    /// Demand 3's first half, or the like of supports: the second call's job is no lighter than the first's.
     Pair,
     /// Demand 3's second half: the calls' jobs differ in height alone.
     Heights,
@@ -42,15 +49,25 @@ pub struct Turn {
     pub relation: Relation,
 }
 
-/// What every turn may look up: the searches and the list of ends.
+/// What every turn may look up: the searches and the lists of ends.
 pub struct Lists {
     pub atlas: exact::Atlas,
     pub ends: Vec<ends::End>,
+    pub support_columns: support_columns::Columns,
+    pub support_ends: Vec<ends::End>,
+    /// Supports and sheets at the very limit of check 8 in wind; true where φ is no thousandth.
+    pub windy_supports: Vec<(bool, Support, Sheet)>,
 }
 
 impl Lists {
     pub fn new() -> Lists {
-        Lists { atlas: exact::search(), ends: ends::all() }
+        Lists {
+            atlas: exact::search(),
+            ends: ends::all(),
+            support_columns: support_columns::search(),
+            support_ends: supports::ends(),
+            windy_supports: support_limits::windy(),
+        }
     }
 }
 
@@ -61,7 +78,7 @@ struct Kind {
     calls: usize,
 }
 
-const KINDS: [Kind; 23] = [
+const KINDS: [Kind; 41] = [
     Kind { make: kinds::uniform, turns: 140, calls: 1 },
     Kind { make: damage::wild, turns: 24, calls: 1 },
     Kind { make: damage::end, turns: 90, calls: 1 },
@@ -85,6 +102,24 @@ const KINDS: [Kind; 23] = [
     Kind { make: damage::file_buffer, turns: 12, calls: 1 },
     Kind { make: kinds::pair, turns: 44, calls: 2 },
     Kind { make: kinds::heights, turns: 20, calls: 3 },
+    Kind { make: support_kinds::uniform, turns: 50, calls: 1 },
+    Kind { make: support_damage::wild, turns: 10, calls: 1 },
+    Kind { make: support_damage::end, turns: 40, calls: 1 },
+    Kind { make: support_kinds::tuned, turns: 8, calls: 4 },
+    Kind { make: support_kinds::at_limit, turns: 9, calls: 1 },
+    Kind { make: support_kinds::still, turns: 4, calls: 2 },
+    Kind { make: support_kinds::column, turns: 12, calls: 1 },
+    Kind { make: support_kinds::cliff, turns: 6, calls: 1 },
+    Kind { make: support_kinds::joint, turns: 4, calls: 2 },
+    Kind { make: support_kinds::column_pair, turns: 4, calls: 2 },
+    Kind { make: support_kinds::pair, turns: 16, calls: 2 },
+    Kind { make: support_damage::first_number, turns: 10, calls: 1 },
+    Kind { make: support_damage::broken_file, turns: 24, calls: 1 },
+    Kind { make: support_damage::shaken_file, turns: 12, calls: 1 },
+    Kind { make: support_damage::faults, turns: 12, calls: 1 },
+    Kind { make: support_damage::report_buffer, turns: 12, calls: 1 },
+    Kind { make: support_damage::file_buffer, turns: 8, calls: 1 },
+    Kind { make: support_damage::most, turns: 2, calls: 1 },
 ];
 
 /// The number of calls in a block.
