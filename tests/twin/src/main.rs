@@ -7,6 +7,7 @@ mod coverage;
 mod demand3;
 mod inputs;
 mod marked;
+mod marked_supports;
 mod options;
 mod paper;
 mod random;
@@ -62,7 +63,8 @@ fn differential(plan: &Plan, whole_table: bool) -> bool {
     if whole_table {
         outcome.table.print_whole();
     }
-    println!("seed {}, {} jobs with all 6,001 heights scanned; cells required:", plan.seed, outcome.scans);
+    println!("seed {}, {} jobs with all 6,001 heights scanned", plan.seed, outcome.scans);
+    println!("{} cells required:", required.len());
     outcome.table.print(&required);
     let all_met = plan.calls < FULL || none_is_empty(&outcome.table.empty(&required));
     println!("{} calls, {} differ", plan.calls, differing.len());

@@ -4,8 +4,10 @@ use crate::call::Call;
 use crate::compare::{both, library_verdict};
 use crate::inputs::columns::{ABOVE, ENDS, INSIDE, JUST_BELOW, UP_TO, WHOLE, tenths};
 use crate::inputs::exact::{self, Atlas};
+use crate::inputs::files::whole;
 use crate::inputs::sheets::{sheet_t, to_bytes};
 use crate::inputs::tuned::Aim;
+use crate::marked_supports;
 use crate::paper::calls;
 use crate::paper::file::groups;
 use crate::paper::fraction::d;
@@ -24,25 +26,21 @@ const REPORT_OF_J: &str = "1 1 477521\n2 1 1584\n3 1 571785\n4 1 2777\n5 1 4160\
 
 /// The marked cases that fail, by name, and the number of cases.
 pub fn failing() -> (Vec<String>, usize) {
-    let cases = [judged(), columns(), lines(), heights(), walls_and_sheets(), files(), long_sheet(), searches()];
-    let cases = cases.concat();
+    let scaffolds = [judged(), columns(), lines(), heights(), walls_and_sheets(), files(), long_sheet(), searches()];
+    let cases = [scaffolds.concat(), marked_supports::cases()].concat();
     let failing = cases.iter().filter(|(_, holds)| !holds).map(|(name, _)| name.clone()).collect();
     (failing, cases.len())
 }
 
-type Cases = Vec<(String, bool)>;
+pub type Cases = Vec<(String, bool)>;
 
-fn case(name: &str, holds: bool) -> (String, bool) {
+pub fn case(name: &str, holds: bool) -> (String, bool) {
     (name.to_string(), holds)
 }
 
-fn job_file(job: &Job) -> Vec<u8> {
-    job.0.iter().flat_map(|&number| groups(number)).collect()
-}
-
 /// The answer of both sides: the report, or refusal and place; none where they differ.
-fn judge(sheet: &[u16; 251], job: &Job) -> Option<Result<String, (u64, u64)>> {
-    let call = Call::Verdict { sheet: to_bytes(sheet), file: job_file(job), report: 200, fill: 1 };
+pub fn judge<const N: usize>(sheet: &[u16; 251], job: &Fields<N>) -> Option<Result<String, (u64, u64)>> {
+    let call = Call::Verdict { sheet: to_bytes(sheet), file: whole(job), report: 200, fill: 1 };
     let (library, twin) = both(&call);
     let answer = match library.refusal() {
         0 => Ok(String::from_utf8_lossy(library.bytes()).into_owned()),
@@ -51,7 +49,7 @@ fn judge(sheet: &[u16; 251], job: &Job) -> Option<Result<String, (u64, u64)>> {
     (library == twin).then_some(answer)
 }
 
-fn has_line(job: &Job, start: &str) -> bool {
+pub fn has_line<const N: usize>(job: &Fields<N>, start: &str) -> bool {
     let begins = |line: &str| line.starts_with(start);
     matches!(judge(&sheet_t(), job), Some(Ok(report)) if report.split_inclusive('\n').any(begins))
 }
@@ -82,7 +80,7 @@ fn columns() -> Cases {
     ]
 }
 
-// No call reaches 250.0, so that the twin's own reading of it is tried here.
+// The line tried on the twin alone; 250.0 is met by supports only, whose marked cases are in a file of their own.
 fn lines() -> Cases {
     let mut entries = sheet_t();
     entries[248..].copy_from_slice(&[150, 140, 117]);
@@ -183,7 +181,7 @@ fn column_searches(atlas: &Atlas) -> Cases {
 }
 
 /// The families and tubes in which the searches found something.
-fn having<T>(found: &BTreeMap<[u32; 3], T>, something: u32) -> Vec<(u32, u32)> {
+pub fn having<T>(found: &BTreeMap<[u32; 3], T>, something: u32) -> Vec<(u32, u32)> {
     found.keys().filter(|key| key[2] == something).map(|key| (key[0], key[1])).collect()
 }
 

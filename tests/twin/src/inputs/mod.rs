@@ -113,7 +113,7 @@ const KINDS: [Kind; 41] = [
     Kind { make: support_kinds::joint, turns: 4, calls: 2 },
     Kind { make: support_kinds::column_pair, turns: 4, calls: 2 },
     Kind { make: support_kinds::pair, turns: 16, calls: 2 },
-    Kind { make: support_damage::first_number, turns: 10, calls: 1 },
+    Kind { make: support_damage::first_number, turns: 12, calls: 1 },
     Kind { make: support_damage::broken_file, turns: 24, calls: 1 },
     Kind { make: support_damage::shaken_file, turns: 12, calls: 1 },
     Kind { make: support_damage::faults, turns: 12, calls: 1 },

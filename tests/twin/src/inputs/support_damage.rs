@@ -27,16 +27,30 @@ pub fn end(random: &mut Random, lists: &Lists, turn: u64) -> Turn {
     single(through(random, kind, &support), vec![(end_cell(end, kind as u32), expected(kind, &support))])
 }
 
-/// First numbers beside 3: near it, and with 3 in their low seven, eight or sixteen bits.
-const FIRST: [u32; 10] = [0, 1, 2, 3, 4, 5, 131, 259, 65_539, u32::MAX];
+/// First numbers: 3 and near it, with 3 in their low seven, eight or sixteen bits, and 3 in forms that are not shortest.
+const FIRST: [&[u8]; 12] = [
+    &[0],
+    &[1],
+    &[2],
+    &[3],
+    &[4],
+    &[5],
+    &[0x83, 0x01],
+    &[0x83, 0x02],
+    &[0x83, 0x80, 0x04],
+    &[0xFF, 0xFF, 0xFF, 0xFF, 0x0F],
+    &[0x83, 0x00],
+    &[0x83, 0x80, 0x80, 0x00],
+];
 
 /// As many turns as there are first numbers, counts of numbers, jobs that the rest is taken from and calls.
-pub const FIRST_NUMBERS: u64 = 80;
+pub const FIRST_NUMBERS: u64 = 96;
 
-/// The first number, how many numbers there are, whether a support begins the rest, and whether the file is read alone.
+/// The first number's place in the list, how many numbers there are, whether a support begins the rest, and whether the
+/// file is read alone.
 pub fn first_number_key(turn: u64) -> [u32; 4] {
-    let (first, rest) = (turn as usize % 10, turn as u32 / 10 % 8);
-    [FIRST[first], if rest.is_multiple_of(2) { 13 } else { 25 }, rest / 2 % 2, rest / 4]
+    let (first, rest) = (turn as u32 % 12, turn as u32 / 12 % 8);
+    [first, if rest.is_multiple_of(2) { 13 } else { 25 }, rest / 2 % 2, rest / 4]
 }
 
 pub fn first_number_cell(key: [u32; 4]) -> Cell {
@@ -50,8 +64,8 @@ pub fn first_number(random: &mut Random, _: &Lists, turn: u64) -> Turn {
     if of_support == 1 {
         numbers[..13].copy_from_slice(&any_accepted(random).0);
     }
-    numbers[0] = first;
-    let file: Vec<u8> = numbers[..count as usize].iter().flat_map(|&number| groups(number)).collect();
+    let mut file = FIRST[first as usize].to_vec();
+    file.extend(numbers[1..count as usize].iter().flat_map(|&number| groups(number)));
     let expect = expected_of_file(&file);
     single(filed(random, file, reads == 1), vec![(first_number_cell(key), expect)])
 }
