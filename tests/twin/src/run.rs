@@ -142,23 +142,12 @@ fn count(planned: &Planned, library: &Answer, table: &mut Table) -> Option<Repor
 
 /// The kinds of calls by which refusals are counted: on scaffold jobs 0 verdict, 1 write, 2 read, on supports 3 to 5.
 fn kind(call: &Call) -> u32 {
+    let is_support = |file: &[u8]| file.first() == Some(&3);
     match call {
-        Call::Verdict { file, .. } => {
-            if file.first() == Some(&3) {
-                3
-            } else {
-                0
-            }
-        }
+        Call::Verdict { file, .. } => 3 * u32::from(is_support(file)),
         Call::Write { .. } => 1,
         Call::WriteSupport { .. } => 4,
-        Call::Read { file, .. } => {
-            if file.first() == Some(&3) {
-                5
-            } else {
-                2
-            }
-        }
+        Call::Read { file, .. } => 2 + 3 * u32::from(is_support(file)),
     }
 }
 

@@ -1,6 +1,6 @@
 //! The turns on accepted supports: uniform, at a limit, without wind, by slenderness, and pairs.
 
-use super::columns::ACROSS;
+use super::columns::{ACROSS, ALIKE};
 use super::kinds::{around_limit, both_sides, equal, judged, limit_pair_cell, single, through, windy_cell};
 use super::sheets::{ending, valid};
 use super::slender::{feature_cell, in_turn, joint_cell, misreading_cell, pair_cell};
@@ -131,7 +131,8 @@ pub fn column_pair(random: &mut Random, lists: &Lists, turn: u64) -> Turn {
         return plain_turn(random, 2);
     };
     let first = edge.failing;
-    let second = if random.once_in(2) { first } else { harsher(random, &first, LOADS_AND_GROUND) };
+    let alone = key[2] != ALIKE && random.once_in(2);
+    let second = if alone { first } else { harsher(random, &first, LOADS_AND_GROUND) };
     let second = with_column(&second, slenderer);
     let cells = vec![(pair_cell(key, check), Expect::Verdict(check, 2))];
     let calls = vec![judged(random, &first, &edge.sheet.0, Vec::new()), judged(random, &second, &edge.sheet.0, cells)];
