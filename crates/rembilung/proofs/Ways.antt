@@ -6,8 +6,9 @@ use Prim.Native.Nat.{ℕ}
 use native.Mathlib.Omega.{arith}
 use lib.ListN.{length}
 use borrow.Author.Tests.{eq-eqb, ne-eqb}
-use Rattle.basis.specs.Refusal.{number, sheetLength, unless, first}
+use Rattle.basis.specs.Refusal.{number, nothing, sheetLength, unless, first}
 use Rattle.basis.specs.declared.Refusal.{Refusal}
+use Rattle.basis.specs.declared.Written.{Written}
 use Rattle.basis.specs.Writing.{roomRefusal, writtenOr, leftOr}
 use Rattle.basis.proofs.Refusals.{first-here, first-rest}
 use Rattle.job.specs.declared.Job.{Job}
@@ -15,18 +16,33 @@ use Rattle.sheet.specs.Sheet as Sheet
 use Rattle.sheet.specs.Rows.{Stands}
 use Rattle.sheet.proofs.Rows.{unrefused-stands}
 use Rattle.support.specs.declared.Support as Declared
+use Rattle.section5.specs.declared.Judgement.{Judgement}
 use Rattle.section5.specs.Section5.{judgement}
 use Rattle.section5.specs.Formwork as Formwork
 use Rattle.jobfile.specs.Read.{jobIn}
 use Rattle.jobfile.specs.declared.ReadJob.the-variants.{Scaffold, Support, Refused}
 use Rattle.jobfile.proofs.Reading.{refused-number}
-use Rattle.report.specs.Report.{reportWritten, reportLeft}
+use Rattle.report.specs.Report.{report, reportWritten, reportLeft}
 use Rattle.rembilung.specs.Code.{code, writtenCode}
 use Rattle.rembilung.specs.Call.{entriesOf, refusalIn, reportIn, text, sheetRefusal, inputRefusal, callRefusal, callCode, callBuffer}
 
 -- a sheet of which nothing is refused stands
 pub sheet-accepted : (entries : List ℕ) {r : Refusal} → r ≡ Sheet.examination entries → number r ≡ 0 → Stands entries
 sheet-accepted entries e h = unrefused-stands entries (sym (ap number e) ∙ h)
+
+-- nothing is refused of a file, and its report under some entries is that of the judgement
+pub record Told (file entries : List ℕ) (g : Judgement) : Type 0 where
+  pub nothing-refused : refusalIn (jobIn file) ≡ nothing
+  pub shown : reportIn entries (jobIn file) ≡ report g
+
+module _ (file entries : List ℕ) {g : Judgement} where
+  pub told-scaffold : {j : Job} → jobIn file ≡ Scaffold j → g ≡ judgement j entries → Told file entries g
+  unfolding refusalIn reportIn
+  told-scaffold e f = record { nothing-refused = rw e refl; shown = rw (e, f) refl }
+
+  pub told-support : {s : Declared.Support} → jobIn file ≡ Support s → g ≡ Formwork.judgement s entries → Told file entries g
+  unfolding refusalIn reportIn
+  told-support e f = record { nothing-refused = rw e refl; shown = rw (e, f) refl }
 
 module _ (sheet file out : List ℕ) where
   -- a refusal, and the buffer as it was
@@ -62,14 +78,9 @@ module _ (sheet file out : List ℕ) where
       bad-file {r} e = refused (rw (later, e) refl) (refused-number file e)
 
       -- the report, or a buffer too short for it
-      reported : {j : Job} → jobIn file ≡ Scaffold j → (writtenCode (reportWritten (judgement j (entriesOf sheet)) out) ≡ callCode sheet file out) × (reportLeft (judgement j (entriesOf sheet)) out ≡ callBuffer sheet file out)
-      unfolding callRefusal callCode callBuffer refusalIn reportIn text first
-      reported e = rw (later, e) (refl, refl)
-
-      support-reported : {s : Declared.Support} → jobIn file ≡ Support s
-          → (writtenCode (reportWritten (Formwork.judgement s (entriesOf sheet)) out) ≡ callCode sheet file out) × (reportLeft (Formwork.judgement s (entriesOf sheet)) out ≡ callBuffer sheet file out)
-      unfolding callRefusal callCode callBuffer refusalIn reportIn text first
-      support-reported e = rw (later, e) (refl, refl)
+      reported : {g : Judgement} → Told file (entriesOf sheet) g → (writtenCode (reportWritten g out) ≡ callCode sheet file out) × (reportLeft g out ≡ callBuffer sheet file out)
+      unfolding callRefusal callCode callBuffer text first
+      reported t = rw (later, t .nothing-refused, t .shown) (refl, refl)
 
     -- the same with the entries that the code has read
     module _ {entries : List ℕ} {r : Refusal} (n : entries ≡ entriesOf sheet) (e : r ≡ Sheet.examination entries) (h : number r ≡ 0) where
@@ -79,8 +90,6 @@ module _ (sheet file out : List ℕ) where
       pub file-way : {x : Refusal} {c : ℕ} → jobIn file ≡ Refused x → c ≡ code x → (c ≡ callCode sheet file out) × (out ≡ callBuffer sheet file out)
       file-way f g = let b = bad-file unrefused f in (g ∙ b .0, b .1)
 
-      pub report-way : {j : Job} {c : ℕ} {after : List ℕ} → jobIn file ≡ Scaffold j → c ≡ writtenCode (reportWritten (judgement j entries) out) → after ≡ reportLeft (judgement j entries) out → (c ≡ callCode sheet file out) × (after ≡ callBuffer sheet file out)
-      report-way f g a = let b = reported unrefused f in (rw n at g ∙ b .0, rw n at a ∙ b .1)
-
-      pub support-way : {s : Declared.Support} {c : ℕ} {after : List ℕ} → jobIn file ≡ Support s → c ≡ writtenCode (reportWritten (Formwork.judgement s entries) out) → after ≡ reportLeft (Formwork.judgement s entries) out → (c ≡ callCode sheet file out) × (after ≡ callBuffer sheet file out)
-      support-way f g a = let b = support-reported unrefused f in (rw n at g ∙ b .0, rw n at a ∙ b .1)
+      pub report-way : {g : Judgement} {w : Written} {c : ℕ} {after : List ℕ} → Told file entries g → w ≡ reportWritten g out → c ≡ writtenCode w → after ≡ reportLeft g out
+          → (c ≡ callCode sheet file out) × (after ≡ callBuffer sheet file out)
+      report-way t e f a = let b = reported unrefused (rw n at t) in (f ∙ ap writtenCode e ∙ b .0, a ∙ b .1)

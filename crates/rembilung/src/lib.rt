@@ -1,12 +1,6 @@
 // The C interface: the whole call, and job files of both kinds for a host that keys numbers in.
 ghost use mathlib.Core.Path.{_≡_};
-ghost use Rattle.job.specs.Rows.{Stands as JobStands};
-ghost use Rattle.support.specs.Rows.{Stands as SupportStands};
-ghost use Rattle.sheet.specs.Rows.{Stands};
-ghost use Rattle.section5.specs.Section5.{judgement};
-ghost use Rattle.section5.specs.Formwork as Formwork;
 ghost use Rattle.jobfile.specs.Kind.{scaffold, support};
-ghost use Rattle.report.specs.Report.{reportWritten, reportLeft};
 ghost use Rattle.rembilung.specs.Code.{code, writtenCode};
 ghost use Rattle.rembilung.specs.Call.{callCode, callBuffer, writeCode, writeBuffer, readCode, readBuffer};
 use basis::Refusal;
@@ -14,13 +8,11 @@ use basis::SHEET_LENGTH;
 use basis::Written;
 use basis::least_of;
 use formwork::judge_accepted_support;
-use job::Job;
 use jobfile::JOB_NUMBERS;
 use jobfile::ReadJob;
 use jobfile::SUPPORT_NUMBERS;
 use jobfile::over_front;
 use judge::judge_accepted;
-use support::Support;
 
 // A refusal as one number: its number above 32 bits, its place below.
 fn code_of(refusal: Refusal) -> u64
@@ -77,24 +69,6 @@ pub extern "C" fn rembilung_read_job(file: &[u8], numbers: &mut [u32; 25]) -> u6
     }
 }
 
-// Judges an accepted sheet and job, and writes the report.
-fn report_into(sheet: &[u16], j: Job, out: &mut [u8]) -> u64
-    requires { ⌜ Stands (now sheet) × JobStands j ⌝ }
-    ensures returned { λ r. ⌜ r ≡ writtenCode (reportWritten (judgement j (now (sheet .entry))) (now (out .entry))) ⌝ }
-    ensures buffer { λ _. ⌜ now (out .exit) ≡ reportLeft (judgement j (now (sheet .entry))) (now (out .entry)) ⌝ }
-{
-    written_code(report::write(judge_accepted(sheet, j), out))
-}
-
-// The same for a support.
-fn support_report_into(sheet: &[u16], s: Support, out: &mut [u8]) -> u64
-    requires { ⌜ Stands (now sheet) × SupportStands s ⌝ }
-    ensures returned { λ r. ⌜ r ≡ writtenCode (reportWritten (Formwork.judgement s (now (sheet .entry))) (now (out .entry))) ⌝ }
-    ensures buffer { λ _. ⌜ now (out .exit) ≡ reportLeft (Formwork.judgement s (now (sheet .entry))) (now (out .entry)) ⌝ }
-{
-    written_code(report::write(judge_accepted_support(sheet, s), out))
-}
-
 // The whole call: the report's length, or a refusal (1, 2, 6, 7, 3, 4, 5, 8), with the buffer as it was.
 #[no_mangle]
 pub extern "C" fn rembilung_verdict(sheet: &[u8], file: &[u8], report: &mut [u8]) -> u64
@@ -113,9 +87,10 @@ pub extern "C" fn rembilung_verdict(sheet: &[u8], file: &[u8], report: &mut [u8]
     if refused.number != 0 {
         return code_of(refused);
     }
-    match jobfile::read(file) {
-        ReadJob::Scaffold(j) => report_into(&entries, j, report),
-        ReadJob::Support(s) => support_report_into(&entries, s, report),
-        ReadJob::Refused(refusal) => code_of(refusal),
-    }
+    let judgement = match jobfile::read(file) {
+        ReadJob::Scaffold(j) => judge_accepted(&entries, j),
+        ReadJob::Support(s) => judge_accepted_support(&entries, s),
+        ReadJob::Refused(refusal) => return code_of(refusal),
+    };
+    written_code(report::write(judgement, report))
 }
