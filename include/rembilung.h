@@ -141,7 +141,8 @@ static inline uint32_t rembilung_place(uint64_t result) {
  * A file whose first number is 3 is read as a support's 13 numbers, any other as a scaffold's 25; a first number that is
  * none of 1, 2 and 3 is refused 3 at field 1, unless 6 or 7 comes before.
  *
- * The report is text in ASCII: fourteen lines, each ended by one byte 0A (hexadecimal), one space between parts.
+ * The report is text in ASCII, each line ended by one byte 0A (hexadecimal), one space between parts. That of a scaffold
+ * has fourteen lines:
  *
  *     1 VERDICT FIGURE    transom moment, N mm
  *     2 VERDICT FIGURE    transom deflection, micrometres
@@ -158,8 +159,9 @@ static inline uint32_t rembilung_place(uint64_t result) {
  *     wind WK MW                    wind pressure, N/m2, and the pole's moment from it, N mm
  *     column Z                      slenderness at which the sheet is read, in tenths: 1974 is 197.4
  *
- * VERDICT is 1 passes, 2 fails, 0 not due (check 8 alone, in light wind on an open scaffold). Figures are rounded up to
- * a whole number. Z is rounded up too: to a tenth up to 250, to a whole number above, so that 250.1 is shown as 2510.
+ * VERDICT is 1 passes, 2 fails, 0 not due (of a scaffold check 8 alone, in light wind on an open face). Figures are
+ * rounded up to a whole number. Z is rounded up too: to a tenth up to 250, to a whole number above, so that 250.1 is
+ * shown as 2510.
  * STABILITY is the greatest height from 0 to 6,000 cm at which checks 7 and 8 hold, the job's own height set aside.
  * PERMITTED is clause 5.3.7's: less than STABILITY from 2,600 cm on, and at most 5,000 (double row) or 2,400 (single
  * row).

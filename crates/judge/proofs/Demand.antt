@@ -25,7 +25,7 @@ use Rattle.judge.specs.Marked.{examined}
 use Rattle.judge.specs.Demand3.{rank, UpTo, heightsOf, verdictAt, mild, harsh, Demand3}
 use Rattle.judge.proofs.Ways.{sheet-stands, job-stands, accepted-judgement}
 
-at-most-itself : (x : Ratio) → T (x ≼ x)
+pub at-most-itself : (x : Ratio) → T (x ≼ x)
 unfolding _≼_
 at-most-itself x = le→leb (x .over * x .under) (x .over * x .under) (le-refl (x .over * x .under))
 
