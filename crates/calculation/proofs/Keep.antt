@@ -15,7 +15,7 @@ use Rattle.sheet.specs.StabilityFactor.{over, under, Weaker}
 use Rattle.sheet.proofs.Falls.{weakens}
 use Rattle.section5.specs.Section5.{soilFactor}
 use Rattle.section5.specs.Harsher.{Harsher}
-use Rattle.calculation.specs.Whole.{area, modulus, radius, stiffness, slenderLimit, wk, mw, deckLoad, load, force, forceWind, columnSlenderness, columnAt, columnOf, check1, check2, check3, check4, check5, check6, bears, bends, notDue, check9, baseBears, groundBears, verdicts, poles}
+use Rattle.calculation.specs.Whole.{area, modulus, radius, stiffness, slenderLimit, wk, mw, deckLoad, load, force, forceWind, columnAt, columnOf, check1, check2, check3, check4, check5, check6, bears, bends, notDue, check9, baseBears, groundBears, verdicts, poles}
 use Rattle.calculation.proofs.Verdicts.{fails, fails-due, Worse, none, next}
 use Rattle.calculation.proofs.Limits.{deflects-keep, bears-keep, bends-keep}
 use Rattle.calculation.proofs.Growth.{factor-grows, columnSlenderness-grows, force-grows, forceWind-grows, mw-grows, transomMoment-grows, transomLoad-grows, ledgerMoment-grows, ledgerLoad-grows, slip-grows, face-grows, tieForce-grows, capacity-falls}

@@ -26,6 +26,7 @@ use basis::both_of;
 use job::Job;
 use section5::CHECKS;
 
+// A verdict: 1 passes, 2 fails.
 pub fn verdict_of(pass: bool) -> u8
     ensures { λ r. ⌜ r ≡ verdict pass ⌝ }
 {
@@ -122,7 +123,7 @@ pub fn base_bears(n: u64) -> bool
 }
 
 // Check 11 of a force.
-// requires: judge shows the bounds by examining the job.
+// requires: judge and formwork show the bounds by examining the job.
 pub fn ground_bears(soil: u32, strength: u32, pad: u32, n: u64) -> bool
     requires { ⌜ (strength ≤ 2000) × (pad ≤ 10000) × (n ≤ 1543200) ⌝ }
     ensures { λ r. ⌜ r ≡ groundBears soil strength pad n ⌝ }

@@ -19,7 +19,7 @@ pub struct Column {
 }
 
 // The column of a tube under a sheet, at a slenderness of z tenths.
-// requires: judge shows that the sheet stands and that no accepted job is more slender.
+// requires: judge and formwork show that the sheet stands and that no accepted job is more slender.
 pub fn column_of(sheet: &[u16], tube: u32, z: u64) -> Column
     requires { ⌜ Stands (now sheet) × (z ≤ 2930) ⌝ }
     ensures { λ r. ⌜ IsColumn r (columnAt (now (sheet .entry)) tube z) ⌝ }

@@ -17,6 +17,7 @@ pub(crate) fn modulus_of(tube: u32) -> u64
     choose(tube == 1, 5080, 5130)
 }
 
+// i, tenths of a mm.
 pub fn radius_of(tube: u32) -> u64
     ensures { λ r. ⌜ Is r (radius tube) 170 × (158 ≤ r) ⌝ }
 {

@@ -25,7 +25,7 @@ pub fn shape_of(enclosure: u32, wall: u32, shield: u32) -> u64
 }
 
 // wk, N/m², of height factor, shape and basic wind.
-// requires: judge shows the bounds by examining the job.
+// requires: judge and formwork show the bounds by examining the job.
 pub fn wind_pressure(exposure: u32, shape: u64, wind: u32) -> u64
     requires { ⌜ (exposure ≤ 4000) × (shape ≤ 312000) × (wind ≤ 2000) ⌝ }
     ensures { λ r. ⌜ Is r (windPressure exposure shape wind) 17472 ⌝ }
@@ -36,7 +36,7 @@ pub fn wind_pressure(exposure: u32, shape: u64, wind: u32) -> u64
 }
 
 // Mw, N·mm, of wk, bay and step.
-// requires: judge shows the bounds by examining the job.
+// requires: judge and formwork show the bounds by examining the job.
 pub fn wind_moment(w: u64, la: u32, step: u32) -> u64
     requires { ⌜ (w ≤ 17472) × (la ≤ 200) × (step ≤ 200) ⌝ }
     ensures { λ r. ⌜ Is r (windMoment w la step) 17000000 ⌝ }
@@ -47,7 +47,7 @@ pub fn wind_moment(w: u64, la: u32, step: u32) -> u64
 }
 
 // A slenderness in tenths, above 250.0 up to a whole number.
-// requires: column_slenderness shows it of an accepted job.
+// requires: column_slenderness shows it of an accepted job, formwork of an accepted support.
 pub fn rounded_tenths(t: u64) -> u64
     requires { ⌜ t ≤ 2930 ⌝ }
     ensures { λ r. ⌜ Is r (roundedTenths t) 2930 ⌝ }

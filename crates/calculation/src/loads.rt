@@ -76,7 +76,7 @@ pub fn raised_by(l: Load, weight: u32, h: u32) -> Load
 }
 
 // N.
-// requires: judge shows it of an accepted job's load; that of sixteen jobs one above the other is within it.
+// requires: judge shows it of an accepted job's load, formwork of a support's; that of sixteen jobs one above the other is within it.
 pub fn force_of(l: Load) -> u64
     requires { ⌜ WithinSixteen l ⌝ }
     ensures { λ r. ⌜ Is r (force l) 1543200 ⌝ }

@@ -5,7 +5,7 @@ use mathlib.Core.List.{List}
 use Prim.Native.Nat.{ℕ}
 use lib.Dec.{lit≤}
 use Rattle.basis.specs.Fraction.{fractions, _≼_}
-use Rattle.basis.proofs.Order.{mono}
+use Rattle.basis.proofs.Order.{mono, at-most-itself}
 use Rattle.support.specs.declared.Support.{Support}
 use Rattle.support.specs.Examine as Support
 use Rattle.support.specs.SupportS.{supportS}
@@ -16,7 +16,6 @@ use Rattle.calculation.specs.Whole.{force, forceWind}
 use Rattle.calculation.proofs.Verdicts.{worse-at}
 use Rattle.formwork.specs.Whole as W
 use Rattle.judge.specs.Marked.{examined}
-use Rattle.judge.proofs.Demand.{at-most-itself}
 use Rattle.formwork.specs.Answer.{refusal, Accepted, answer}
 use Rattle.formwork.specs.Order.{verdictAt, harsh, Order}
 use Rattle.formwork.proofs.Same.{judgement-same}

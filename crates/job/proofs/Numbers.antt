@@ -12,10 +12,6 @@ pub job-numbers : (j : Job) → jobOf (numbers j) ≡ j
 unfolding jobOf numbers
 job-numbers j = refl
 
-pub numbers-long : (j : Job) → length (numbers j) ≡ 25
-unfolding numbers
-numbers-long j = refl
-
 pub numbers-job : (l : List ℕ) → length l ≡ 25 → numbers (jobOf l) ≡ l
 unfolding jobOf numbers entries
 numbers-job l e = entries-all l 25 0 e

@@ -4,13 +4,13 @@ use mathlib.Core.Path.{_≡_, _∙_, refl, ap}
 use mathlib.Core.Bool.{Bool, _||_, true}
 use mathlib.Core.List.{_∷_}
 use mathlib.Core.Logic.{_⊎_, inl, inr, ⊎-elim}
-use Prim.Native.Nat.{ℕ, zero, suc, _≤_, _<_}
+use Prim.Native.Nat.{ℕ, _≤_, _<_}
 use native.Mathlib.Omega.{arith}
 use lib.ListN.{set}
 use lib.Dec.{eqb, leb, ltb, lit<}
 use borrow.Author.Tests.{ltb-true, ltb-false, leb-true, leb-false, eqb-true, eqb-false, lt-ltb, le-ltb, le-leb, lt-leb, eq-eqb, ne-eqb}
 use Rattle.basis.specs.Refusal.{number, nothing, fieldRange, contradiction, unless}
-use Rattle.basis.specs.Rows.{First, Some, Follows}
+use Rattle.basis.specs.Rows.{Some, Follows}
 use Rattle.basis.proofs.Tests.{cases, within-le}
 use Rattle.basis.proofs.Lowest.{lowest-none, lowest-is, lowest-every, set-passes}
 use Rattle.basis.proofs.Refusals.{unless-passes, unless-fails}
@@ -96,12 +96,9 @@ module _ (j : Job) where
   follows : Follows (examination j) (Row j) (Stands j)
   follows = record { row = row-is; none = none-is; every = every-is }
 
--- a job of which nothing is refused stands, and the other way round
+-- a job of which nothing is refused stands
 pub unrefused-stands : (j : Job) → number (examination j) ≡ 0 → Stands j
 unrefused-stands j = unrefused (follows j)
-
-pub stands-unrefused : (j : Job) → Stands j → number (examination j) ≡ 0
-stands-unrefused j s = ap number (none-is j s)
 
 -- a job that stands does so at every height that field 7 allows
 pub stands-at : (j : Job) (H : ℕ) → Stands j → Inside (jobOf (set (numbers j) 6 H)) 7 → Stands (jobOf (set (numbers j) 6 H))

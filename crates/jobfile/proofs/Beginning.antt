@@ -5,7 +5,6 @@ use mathlib.Core.Path.{_≡_}
 use mathlib.Core.List.{List}
 use native.Mathlib.Omega.{arith}
 use lib.ListN.{take}
-use Rattle.groups.specs.Numbers.{damage, values}
 use Rattle.groups.proofs.Beginning.{decode-take, damage-take, values-take}
 use Rattle.jobfile.specs.Kind.{Kind, scaffold, support, count, marksSupport, kindOf}
 use Rattle.jobfile.specs.Read.{refusalAs, readAs, jobIn}

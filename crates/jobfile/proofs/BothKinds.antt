@@ -18,10 +18,10 @@ use Rattle.support.proofs.Bounds.{bounds}
 use Rattle.support.proofs.Rows as Support
 use Rattle.groups.specs.Encode.{groups, encode, encodeAll}
 use Rattle.groups.specs.Decode.{Bytes, decode}
-use Rattle.groups.specs.Numbers.{valueOf, bytesOf, offsetAfter}
+use Rattle.groups.specs.Numbers.{valueOf, offsetAfter}
 use Rattle.groups.specs.Rows.{Narrow, Starts}
 use Rattle.groups.proofs.Decode.{decoded}
-use Rattle.groups.proofs.Numbers.{number-back, number-read}
+use Rattle.groups.proofs.Numbers.{number-read}
 use Rattle.groups.proofs.Files.{values-back}
 use Rattle.groups.proofs.Places.{values-at}
 use Rattle.jobfile.specs.Kind.{Kind, scaffold, support, count, examination, Row, Stands, marksSupport, kindOf, Marks}

@@ -22,14 +22,13 @@ use Rattle.support.specs.declared.Support as Declared
 use Rattle.support.specs.Support as Support
 use Rattle.support.specs.Rows.{Stands as SupportStands}
 use Rattle.support.proofs.Numbers.{numbers-support}
-use Rattle.groups.specs.Decode.{Bytes, decode}
+use Rattle.groups.specs.Decode.{decode}
 use Rattle.groups.specs.Numbers.{most, values, valueOf, numbersIn}
 use Rattle.groups.specs.declared.Decoded.the-variants.{Number, Malformed}
 use Rattle.groups.specs.declared.ReadNumbers.{ReadNumbers}
 use Rattle.groups.proofs.Files.{values-long}
-use Rattle.jobfile.specs.Kind.{Kind, scaffold, support, count, examination, Stands, marksSupport, kindOf, Marks}
+use Rattle.jobfile.specs.Kind.{Kind, scaffold, support, count, examination, Stands, marksSupport, kindOf}
 use Rattle.jobfile.specs.Read.{refusalAs, jobAs, readAs, jobIn, ReadAsMarked}
-use Rattle.jobfile.specs.declared.ReadJob.{ReadJob}
 use Rattle.jobfile.specs.declared.ReadJob.the-variants.{Scaffold, Support, Refused}
 use Rattle.jobfile.proofs.BothKinds.{told, marks-kind}
 

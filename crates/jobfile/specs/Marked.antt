@@ -1,6 +1,6 @@
 -- The marked cases of document 01 on job files, job J's file, those of document 02 on the files of supports, and the greatest lengths reached.
 -- Assumes nothing.
-use Prim.Native.Nat.{ℕ, _-_}
+use Prim.Native.Nat.{ℕ}
 use mathlib.Core.Path.{refl}
 use mathlib.Core.List.{List, [], _∷_, _++_}
 use lib.ListN.{set, replicate}

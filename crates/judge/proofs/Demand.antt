@@ -4,12 +4,12 @@ use mathlib.Core.Path.{_≡_, refl, ap, _∙_}
 use mathlib.Core.Bool.{Bool}
 use mathlib.Core.List.{List}
 use mathlib.Core.Logic.{_↔_}
-use Prim.Native.Nat.{ℕ, zero, suc, _*_, _≤_, _<_}
+use Prim.Native.Nat.{ℕ, zero, suc, _≤_, _<_}
 use native.Mathlib.Nat.{le-refl}
 use native.Mathlib.Omega.{arith}
-use lib.Dec.{T, le→leb, lit≤}
-use Rattle.basis.specs.Fraction.{Ratio, fractions, _≼_}
-use Rattle.basis.proofs.Order.{mono}
+use lib.Dec.{T, lit≤}
+use Rattle.basis.specs.Fraction.{fractions, _≼_}
+use Rattle.basis.proofs.Order.{mono, at-most-itself}
 use Rattle.basis.proofs.Searches.{top-mono, top-exact}
 use Rattle.job.specs.declared.Job.{Job}
 use Rattle.job.proofs.Bounds.{bounds}
@@ -24,10 +24,6 @@ use Rattle.judge.specs.Answer.{Accepted, answer}
 use Rattle.judge.specs.Marked.{examined}
 use Rattle.judge.specs.Demand3.{rank, UpTo, heightsOf, verdictAt, mild, harsh, Demand3}
 use Rattle.judge.proofs.Ways.{sheet-stands, job-stands, accepted-judgement}
-
-pub at-most-itself : (x : Ratio) → T (x ≼ x)
-unfolding _≼_
-at-most-itself x = le→leb (x .over * x .under) (x .over * x .under) (le-refl (x .over * x .under))
 
 reflexive : (j : Job) → Harsher j j
 reflexive j = search (mono, at-most-itself)

@@ -12,10 +12,6 @@ pub support-numbers : (s : Support) → supportOf (numbers s) ≡ s
 unfolding supportOf numbers
 support-numbers s = refl
 
-pub numbers-long : (s : Support) → length (numbers s) ≡ 13
-unfolding numbers
-numbers-long s = refl
-
 pub numbers-support : (l : List ℕ) → length l ≡ 13 → numbers (supportOf l) ≡ l
 unfolding supportOf numbers entries
 numbers-support l e = entries-all l 13 0 e

@@ -35,12 +35,9 @@ module _ (s : Support) where
   follows : Follows (examination s) (Row s) (Stands s)
   follows = record { row = row-is; none = none-is; every = every-is }
 
--- a support of which nothing is refused stands, and the other way round
+-- a support of which nothing is refused stands
 pub unrefused-stands : (s : Support) → number (examination s) ≡ 0 → Stands s
 unrefused-stands s = unrefused (follows s)
-
-pub stands-unrefused : (s : Support) → Stands s → number (examination s) ≡ 0
-stands-unrefused s h = ap number (none-is s h)
 
 pub told : Told
 told = record { told = follows }
