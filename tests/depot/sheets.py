@@ -111,23 +111,8 @@ SHOWN_J = """\
   25  pad area: 2000  [100 to 10000 cm2]
 """
 
-# The support whose report request-02.txt gives first, under sheet T; and what show prints of it, whole.
-SUPPORT = ["3", "1", "150", "30", "100", "9000", "6000", "300", "1000", "400", "4", "200", "2000"]
-SUPPORT_REPORT = """\
-1 0 0
-2 0 0
-3 0 0
-4 0 0
-5 0 0
-6 0 0
-7 1 19200
-8 1 17940
-9 0 0
-10 1 19200
-11 1 19200
-wind 84 22491
-column 1330
-"""
+# Support S as words, and what show prints of it, whole.
+SUPPORT = [str(number) for number in given.S]
 SHOWN_SUPPORT = """\
    1  kind: 3  [3 (support)]
    2  tube: 1  [1 (48 by 3.5 mm) or 2 (51 by 3.0 mm)]

@@ -1,4 +1,4 @@
-"""What the tests share: sheets T and C, the bytes of sheets and job files, and the cases that requests of document 02 came with.
+"""What the tests share: sheets T and C, support S, the bytes of sheets and job files, and the cases that requests of document 02 came with.
 
 A line `sheet;NAME;ENTRIES` of request-NN.txt is a column sheet for the cases of that file. Every other line that is no comment
 is a case: the word of its call, and the parts after it. A part of no bytes or no numbers is '-'.
@@ -19,6 +19,23 @@ HEXADECIMAL = r"-|([0-9a-f]{2})+"
 NUMBER_ROW = r"[0-9]{1,10}( [0-9]{1,10})*"
 # Sheet T of document 01.
 T = [max(1000 - 4 * k, 150) for k in range(ENTRIES)]
+# Support S, worked out by hand from clause 5.6, and its report under sheet T; request-02.txt gives the same.
+S = [3, 1, 150, 30, 100, 9000, 6000, 300, 1000, 400, 4, 200, 2000]
+S_REPORT = """\
+1 0 0
+2 0 0
+3 0 0
+4 0 0
+5 0 0
+6 0 0
+7 1 19200
+8 1 17940
+9 0 0
+10 1 19200
+11 1 19200
+wind 84 22491
+column 1330
+"""
 
 # Where a case stands, the word of its call, the parts after it, and the sheets of its file, bytes by name.
 Case = collections.namedtuple("Case", "file line word parts sheets")

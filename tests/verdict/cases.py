@@ -5,7 +5,7 @@ What is printed was worked out by hand from the papers, not taken from the progr
 
 import pathlib, sys
 sys.path.insert(0, str(pathlib.Path(__file__).resolve().parents[1] / "vectors"))
-from given import T, groups, job_file, packed
+from given import S, S_REPORT, T, groups, job_file, packed
 
 # job J, its fields by number from 1
 J = [1, 1, 105, 150, 180, 2, 3000, 3, 4, 2, 3000, 5000, 0, 300, 300, 1000, 1, 200, 1, 240, 1, 8000, 4, 200, 2000]
@@ -31,25 +31,9 @@ def job(**changed):
     fields = {f"field{k}": n for k, n in enumerate(J, 1)} | changed
     return job_file(fields.values())
 
-# a support, its numbers by place from 1, and its report under sheet T, which tests/vectors/request-02.txt gives
-SUPPORT = [3, 1, 150, 30, 100, 9000, 6000, 300, 1000, 400, 4, 200, 2000]
-SUPPORT_REPORT = """1 0 0
-2 0 0
-3 0 0
-4 0 0
-5 0 0
-6 0 0
-7 1 19200
-8 1 17940
-9 0 0
-10 1 19200
-11 1 19200
-wind 84 22491
-column 1330
-"""
-
+# support S, its numbers by place from 1
 def support(**changed):
-    numbers = {f"number{k}": n for k, n in enumerate(SUPPORT, 1)} | changed
+    numbers = {f"number{k}": n for k, n in enumerate(S, 1)} | changed
     return job_file(numbers.values())
 
 SHEET = packed(T)
@@ -85,7 +69,7 @@ MORE = {
     "one byte after job J": (SHEET, FILE + b"\0", "refused 7 38\n"),
     "far more than 25 numbers": (SHEET, LONGEST + bytes(5000), "refused 7 125\n"),
     # a first number of 3: 13 numbers, and a report without heights
-    "a support": (SHEET, SUPPORT_FILE, SUPPORT_REPORT),
+    "a support": (SHEET, SUPPORT_FILE, S_REPORT),
     "a support under a sheet cut short": (SHEET[:501], SUPPORT_FILE, "refused 1 501\n"),
     # its number 4, the overhang, is up to 100
     "overhang 101": (SHEET, support(number4=101), "refused 3 4\n"),
