@@ -1,4 +1,6 @@
 // What every layer is built on: the refusals of the papers, what writing answers, choices by a test, and division up.
+#![tactic(auto)]
+
 ghost use Rattle.std.specs.Prelude.{◌&&◌, ◌||◌, cond, ◌≡◌, ◌+◌, ◌<◌, ◌≤◌, min, max};
 ghost use Rattle.basis.specs.Range.{within, field};
 ghost use Rattle.basis.specs.Fraction.{ceil};
@@ -7,7 +9,7 @@ ghost use Rattle.basis.specs.Refusal.{unless, first};
 ghost use Rattle.basis.specs.Writing.{written_or};
 
 // Why nothing is answered: the papers' number, 0 where nothing is refused, and the place.
-#[derive(Drop)]
+#[derive(Clone, Copy)]
 pub struct Refusal {
     pub number: u32,
     pub place: u64,
@@ -60,7 +62,7 @@ pub const TIMBER_INPUT: u32 = 19;
 pub const ALLOWANCE: u32 = 20;
 
 // The length of what was written, or why it is refused.
-#[derive(Drop)]
+#[derive(Clone, Copy)]
 pub enum Written {
     Length(usize),
     Refused(Refusal),
