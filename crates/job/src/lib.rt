@@ -1,4 +1,6 @@
 // A scaffold job: its 25 numbers by name, and what about them is refused (refusals 3, 4 and 5).
+#![tactic(auto)]
+
 ghost use Rattle.std.specs.Prelude.{◌≡◌};
 ghost use Rattle.basis.specs.Range.{lowest};
 ghost use Rattle.job.specs.Ranges.{lb_stands, height_stands, shield_stands, geometry, loads, wind, ground, outside};
@@ -11,7 +13,7 @@ use basis::{
 };
 
 // A job, its fields in the order of the paper and of the job file.
-#[derive(Drop)]
+#[derive(Clone, Copy)]
 pub struct Job {
     // 1 double row, 2 single
     pub family: u32,

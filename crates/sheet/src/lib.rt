@@ -1,4 +1,6 @@
 // The column sheet: its entries from bytes, what about it is refused (refusals 1 and 2), and the stability factor read from it.
+#![tactic(auto)]
+
 ghost use Rattle.std.specs.Prelude.{◌≡◌, ◌≤◌, length};
 ghost use Rattle.basis.specs.Search.{first_fail};
 ghost use Rattle.sheet.specs.Sheet.{stands, entry_stands, examination};
@@ -113,7 +115,7 @@ pub fn examine(sheet: &[u16]) -> Refusal
 }
 
 // A stability factor, over / under.
-#[derive(Drop)]
+#[derive(Clone, Copy)]
 pub struct StabilityFactor {
     pub over: u64,
     pub under: u64,

@@ -1,4 +1,6 @@
 // A formwork support: its 13 numbers by name, and what about them is refused (refusal 3).
+#![tactic(auto)]
+
 ghost use Rattle.std.specs.Prelude.{◌≡◌};
 ghost use Rattle.support.specs.Support.{support_of, numbers};
 ghost use Rattle.support.specs.Examine.{outside, examination};
@@ -6,7 +8,7 @@ ghost use Rattle.support.specs.Examine.{outside, examination};
 use basis::{FIELD_RANGE, NOTHING, Refusal, range_of, refuse_unless};
 
 // A support, its fields in the order of the paper and of the job file.
-#[derive(Drop)]
+#[derive(Clone, Copy)]
 pub struct Support {
     // 3, which marks a support
     pub kind: u32,
