@@ -2,12 +2,11 @@
 -- Assumes nothing.
 use mathlib.Core.Path.{◌≡◌, refl}
 use mathlib.Core.Bool.{Bool, true, false, cond}
-use Prim.Native.Nat.{ℕ, suc, ◌≤◌, ◌<◌}
+use Prim.Native.Nat.{ℕ, suc, ◌≤◌, ◌<◌, zero-le}
 use native.Mathlib.Nat.{le_refl}
 use native.Mathlib.Omega.{arith}
 use lib.Dec.{T, leb, ltb, eqb, leb→le, lit≤}
 use borrow.Author.Tests.{ltb-true, ltb-false}
-use borrow.Author.Rules.{zero≤}
 use Rattle.basis.specs.Search.{first_fail, every}
 use Rattle.basis.proofs.Tests.{cond_below}
 use Rattle.basis.proofs.Searches.{every_at}
@@ -45,17 +44,17 @@ spacing_row_grows : (f : ℕ) {a b : ℕ} → a ≤ b → spacing_row f a ≤ sp
 spacing_row_grows f {a} {b} l = go (eqb f 1)
   where
     go : (t : Bool) → cond t (cond (ltb a 130) 0 (cond (ltb a 155) 1 2)) 0 ≤ cond t (cond (ltb b 130) 0 (cond (ltb b 155) 1 2)) 0
-    go true = step_grows 130 l zero≤ (step_grows 155 l (lit≤ tt) (le_refl 2))
+    go true = step_grows 130 l zero-le (step_grows 155 l (lit≤ tt) (le_refl 2))
     go false = le_refl 0
 
 pub spacing_row_most : (f a : ℕ) → spacing_row f a < 3
-spacing_row_most f a = lt_below 2 tt (cond_below (eqb f 1) (cond_below (ltb a 130) zero≤ (cond_below (ltb a 155) (lit≤ tt) (le_refl 2))) zero≤)
+spacing_row_most f a = lt_below 2 tt (cond_below (eqb f 1) (cond_below (ltb a 130) zero-le (cond_below (ltb a 155) (lit≤ tt) (le_refl 2))) zero-le)
 
 pub family_place_most : (f : ℕ) → family_place f < 2
-family_place_most f = lt_below 1 tt (cond_below (eqb f 1) zero≤ (le_refl 1))
+family_place_most f = lt_below 1 tt (cond_below (eqb f 1) zero-le (le_refl 1))
 
 pub tie_column_most : (t : ℕ) → tie_column t < 2
-tie_column_most t = lt_below 1 tt (cond_below (ltb t 3) zero≤ (le_refl 1))
+tie_column_most t = lt_below 1 tt (cond_below (ltb t 3) zero-le (le_refl 1))
 
 pub length_factor_most : (family lb ties : ℕ) → length_factor family lb ties ≤ 200
 unfolding length_factor
@@ -66,4 +65,4 @@ unfolding length_factor
 length_factor_grows {family' = family} {lb' = lb} {ties' = ties} e l t =
     rw e
     (factor_at_grows (family_place family) _ _ _ _ (family_place_most family) (spacing_row_grows family l) (spacing_row_most family lb)
-    (step_grows 3 t zero≤ (le_refl 1)) (tie_column_most ties))
+    (step_grows 3 t zero-le (le_refl 1)) (tie_column_most ties))

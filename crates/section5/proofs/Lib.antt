@@ -1,2 +1,4 @@
 pub mod LengthFactor
 pub mod Poles
+pub mod Marked
+pub mod MarkedSupports

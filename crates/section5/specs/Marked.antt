@@ -1,15 +1,15 @@
 -- The marked cases of documents 01 and 02 on figures, checks and heights: in each row what the definitions compute, and what the papers say.
 -- Assumes nothing.
-use Rattle.std.specs.Prelude.{ℕ, ◌-◌, ◌*◌, refl, List, [], ◌∷◌, length, get_or, set}
-use Rattle.basis.specs.Fraction.{Ratio, ceil, whole, tenths, ◌⊗◌, ◌≼◌, up, down}
-use Rattle.basis.specs.Marked.{Row, row, Hold}
+use Rattle.std.specs.Prelude.{ℕ, ◌-◌, ◌*◌, List, [], ◌∷◌, length, get_or, set}
+use Rattle.basis.specs.Fraction.{Ratio, whole, tenths, ◌⊗◌, up, down}
+use Rattle.basis.specs.Marked.{Row, row}
 use Rattle.job.specs.declared.Job.{Job}
 use Rattle.job.specs.Job.{job_of}
 use Rattle.job.specs.JobJ.{numbers_J, job_J, job_J_with}
 use Rattle.sheet.specs.SheetT.{tabulated, sheet_T}
 use Rattle.section5.specs.declared.Heights.{Heights}
 use Rattle.section5.specs.declared.Heights.TheVariants.{NoLine, Nowhere, Both}
-use Rattle.section5.specs.Section5.{checks, verdicts, figures, stability, permitted, heights, wk, Mw, φ, column, stability_factor, paper}
+use Rattle.section5.specs.Section5.{checks, verdicts, figures, stability, permitted, heights, wk, Mw, φ, column, stability_factor}
 
 -- a double row with t = 3, the tube, the spacing lb and the step h
 unfoldable pub column_with : ℕ → ℕ → ℕ → Job
@@ -41,7 +41,7 @@ unfoldable pub verdict_of : ℕ → Job → ℕ
 unfolding sheet_T
 verdict_of check j = get_or (verdicts j sheet_T) (check - 1) 0
 
-pub rows : List Row
+unfoldable pub rows : List Row
 unfolding sheet_T job_J job_J_with column_with light_with sheet_from ten_thousandths shown verdict_of
 rows =
     -- J's figures, wk, Mw, Z in tenths, verdicts and heights
@@ -75,7 +75,3 @@ rows =
     -- at exactly 250.0, entry 250
     ∷ row (ten_thousandths (stability_factor (sheet_from 1000 3) (tenths 2500))) (2500 ∷ 2500 ∷ [])
     ∷ []
-
-pub marked : Hold rows
-unfolding Hold rows paper ceil ◌≼◌ up down
-marked = (refl, (refl, (refl, (refl, (refl, (refl, (refl, (refl, (refl, (refl, (refl, (refl, (refl, (refl, (refl, (refl, (refl, (refl, (refl, tt)))))))))))))))))))

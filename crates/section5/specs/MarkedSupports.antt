@@ -1,14 +1,13 @@
 -- Supports worked out by hand from clause 5.6: in each row what the definitions compute, and what stands on paper.
 -- Assumes nothing.
-use Rattle.std.specs.Prelude.{ℕ, ◌-◌, refl, List, [], ◌∷◌, length, get_or, set}
-use Rattle.basis.specs.Fraction.{ceil, ◌≼◌, up, down}
-use Rattle.basis.specs.Marked.{Row, row, Hold}
+use Rattle.std.specs.Prelude.{ℕ, ◌-◌, List, [], ◌∷◌, length, get_or, set}
+use Rattle.basis.specs.Marked.{Row, row}
 use Rattle.support.specs.declared.Support.{Support}
 use Rattle.support.specs.Support.{support_of}
 use Rattle.support.specs.SupportS.{numbers_S, support_S, support_S_with}
 use Rattle.sheet.specs.SheetT.{sheet_T}
-use Rattle.section5.specs.Section5.{checks, paper}
-use Rattle.section5.specs.Formwork.{verdicts, figures, wk, Mw, φ, column, clause}
+use Rattle.section5.specs.Section5.{checks}
+use Rattle.section5.specs.Formwork.{verdicts, figures, wk, Mw, φ, column}
 use Rattle.section5.specs.Marked.{sheet_from, ten_thousandths}
 
 -- S in a gale: w0 2,000 N/m², height factor 4, shape factor 2
@@ -26,7 +25,7 @@ unfoldable pub verdict_of : ℕ → Support → ℕ
 unfolding sheet_T
 verdict_of check s = get_or (verdicts s sheet_T) (check - 1) 0
 
-pub rows : List Row
+unfoldable pub rows : List Row
 unfolding sheet_T support_S support_S_with gale tall_with verdict_of sheet_from ten_thousandths
 rows =
     -- S: N = 1.2 × 9,000 + 1.4 × 6,000, Nw = 1.2 × 9,000 + 1.19 × 6,000
@@ -50,7 +49,3 @@ rows =
     ∷ row (column (tall_with 195) ∷ ten_thousandths (φ (tall_with 195) (sheet_from 1000 3))) (2500 ∷ 2500 ∷ 2500 ∷ [])
     ∷ row (column (tall_with 196) ∷ ten_thousandths (φ (tall_with 196) (sheet_from 1000 3))) (2510 ∷ 1161 ∷ 1162 ∷ [])
     ∷ []
-
-pub marked : Hold rows
-unfolding Hold rows paper clause ceil ◌≼◌ up down
-marked = (refl, (refl, (refl, (refl, (refl, (refl, (refl, (refl, (refl, (refl, (refl, tt)))))))))))

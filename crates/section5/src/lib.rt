@@ -1,17 +1,18 @@
 // What judging tells of a job: the types of document 01's answer. Their meaning stands in specs/; nothing here is worked out.
+#![tactic(auto)]
 
 // How many checks there are.
 pub const CHECKS: usize = 11;
 
 // A height in cm, or none.
-#[derive(Drop)]
+#[derive(Clone, Copy)]
 pub enum Height {
     None,
     At(u64),
 }
 
 // What a report says of heights.
-#[derive(Drop)]
+#[derive(Clone, Copy)]
 pub enum Heights {
     // no line: heights are not asked for
     NoLine,
@@ -22,7 +23,7 @@ pub enum Heights {
 }
 
 // What is told of a job that is accepted: each place of a row is fixed by its check.
-#[derive(Drop)]
+#[derive(Clone, Copy)]
 pub struct Judgement {
     pub verdicts: [u8; CHECKS],
     pub figures: [u64; CHECKS],
