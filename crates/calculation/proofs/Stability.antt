@@ -3,12 +3,11 @@
 use mathlib.Core.Path.{◌≡◌, refl, ap, sym, ◌∙◌}
 use mathlib.Core.Bool.{Bool, true, false, ◌&&◌, ◌||◌, cond}
 use mathlib.Core.Logic.{◌↔◌}
-use Prim.Native.Nat.{ℕ, zero, suc, ◌+◌, ◌*◌, ◌-◌, ◌/◌, ◌≤◌, ◌<◌, min}
+use Prim.Native.Nat.{ℕ, zero, suc, ◌+◌, ◌*◌, ◌-◌, ◌/◌, ◌≤◌, ◌<◌, min, zero-le}
 use native.Mathlib.Nat.{le_trans, min-le_left, min-le_right, le-min, mul-pos, add-sub_of_le, le_of_mul-le-mul_left, le-div_iff_mul-le}
 use native.Mathlib.Omega.{arith}
 use lib.Dec.{T, leb, leb→le, le→leb, lit<}
 use borrow.Author.Tests.{leb-true, leb-false, le-leb, lt-leb}
-use borrow.Author.Rules.{zero≤}
 use Rattle.basis.specs.Search.{top}
 use Rattle.basis.specs.Fraction.{ceil}
 use Rattle.basis.proofs.Order.{ceil_le}
@@ -98,7 +97,7 @@ count_up_to_iff c k b H p l = cases (leb c b) (λ t. rw t (inside (leb-true c b 
 
 count_up_to_most : (c k b : ℕ) → count_up_to c k b ≤ 6001
 unfolding count_up_to
-count_up_to_most c k b = cond_below (leb c b) (min-le_left 6001 ((b - c) / k + 1)) zero≤
+count_up_to_most c k b = cond_below (leb c b) (min-le_left 6001 ((b - c) / k + 1)) zero-le
 
 module _ (c : Column) (s : Proper c) (l : Load) (w : ℕ) (p : 0 < w) (m : ℕ) (H : ℕ) (h : H < 6001) where
   count7_iff : T (bears c (force (raised l w H))) ↔ (H < count7 c l w)

@@ -10,7 +10,7 @@ use crate::constants::{area_of, modulus_of};
 use sheet::stability_factor;
 
 // The stability factor, over / under, and the tube's area and modulus.
-#[derive(Drop)]
+#[derive(Clone, Copy)]
 pub struct Column {
     pub over: u64,
     pub under: u64,

@@ -1,4 +1,6 @@
 // Section 5 worked out in whole numbers of 64 bits: loads, columns, figures, the eleven checks and heights.
+#![tactic(auto)]
+
 pub mod checks;
 pub mod columns;
 pub mod constants;

@@ -10,7 +10,7 @@ use basis::ceil_div;
 use job::Job;
 
 // Dead and live load, in 1/20,000 N.
-#[derive(Drop)]
+#[derive(Clone, Copy)]
 pub struct Load {
     pub dead: u64,
     pub live: u64,

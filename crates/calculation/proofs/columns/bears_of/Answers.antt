@@ -1,0 +1,6 @@
+-- `bears_of` meets its contract. Assumes nothing.
+use Rattle.calculation.proofs.Stability.{bears_within}
+use Rattle.calculation.proofs.columns.bears_of.Goals as goal
+
+pub returns : goal.returns
+returns c = cc (bears_within c.args.c c.requires c.args.n)

@@ -1,0 +1,9 @@
+-- `limit7_of` meets its contract. Assumes nothing.
+use mathlib.Core.Path.{refl}
+use Rattle.basis.proofs.Fits.{is_most}
+use Rattle.calculation.specs.Division.{limit7}
+use Rattle.calculation.proofs.Most.{limit7_most}
+use Rattle.calculation.proofs.columns.limit7_of.Goals as goal
+
+pub returns : goal.returns
+returns c = is_most _ tt (limit7_most (search)) (unfold limit7 in refl)

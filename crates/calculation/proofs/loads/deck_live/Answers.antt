@@ -1,0 +1,8 @@
+-- `deck_live` meets its contract. Assumes nothing.
+use Rattle.basis.proofs.Fits.{is_most}
+use Rattle.calculation.specs.Whole.{deck_live}
+use Rattle.calculation.proofs.Most.{deck_live_most}
+use Rattle.calculation.proofs.loads.deck_live.Goals as goal
+
+pub returns : goal.returns
+returns c = is_most _ tt (deck_live_most (search)) (unfold deck_live in cc)
