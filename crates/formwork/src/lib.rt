@@ -1,4 +1,6 @@
 // Judging a formwork support under a column sheet: refused by 1, 2 and 3, or judged by clause 5.6.
+#![tactic(auto)]
+
 ghost use Rattle.std.specs.Prelude.{◌≡◌, ◌≤◌};
 ghost use Rattle.basis.specs.Figure.{Is};
 ghost use Rattle.support.specs.Bounds.{Bounds};
@@ -94,6 +96,7 @@ pub fn judge_accepted_support(sheet: &[u16], s: Support) -> Judgement
 }
 
 // Refuses the sheet (1, 2), then the support (3), or judges it.
+#[tactic(auto, unfolding(crate::specs::Answer::answer, crate::specs::Answer::refusal))]
 pub fn judge_support(sheet: &[u16], s: Support) -> Judged
     ensures { result ≡ answer sheet.now s }
 {

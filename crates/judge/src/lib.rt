@@ -1,4 +1,6 @@
 // Judging a job under a column sheet: refused by 1 to 5, or judged by section 5.
+#![tactic(auto)]
+
 ghost use Rattle.std.specs.Prelude.{◌≡◌};
 ghost use Rattle.job.specs.Bounds.{Bounds};
 ghost use Rattle.job.specs.Rows.{Stands as JobStands};
@@ -16,7 +18,7 @@ use job::Job;
 use section5::{CHECKS, Heights, Judgement};
 
 // The refusal, or nothing refused and the judgement beside it.
-#[derive(Drop)]
+#[derive(Clone, Copy)]
 pub struct Judged {
     pub refusal: Refusal,
     pub judgement: Judgement,
@@ -71,6 +73,7 @@ pub fn blank_of() -> Judgement
 }
 
 // Refuses the sheet (1, 2), then the job (3, 4, 5), or judges it.
+#[tactic(auto, unfolding(crate::specs::Answer::answer, crate::specs::Answer::refusal))]
 pub fn judge(sheet: &[u16], j: Job) -> Judged
     ensures { result ≡ answer sheet.now j }
 {
