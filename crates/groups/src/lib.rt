@@ -1,4 +1,6 @@
 // Numbers in groups of seven bits: one read and written, and several one after the other (refusals 6 and 7).
+#![tactic(auto)]
+
 ghost use Rattle.std.specs.Prelude.{cond, ◌≡◌, ◌≤◌, ◌<◌, ◌^◌, ◌++◌, leb, length, take, drop};
 ghost use Rattle.basis.specs.Figure.{Is};
 ghost use Rattle.groups.specs.Encode.{encode, encode_all};
@@ -12,14 +14,14 @@ use basis::{DAMAGED, NOTHING, Refusal, TRAILING, refuse_unless};
 pub const MOST: usize = 25;
 
 // A number at the front of some bytes: its value and how many bytes it takes; or none in its shortest form.
-#[derive(Drop)]
+#[derive(Clone, Copy)]
 pub enum Decoded {
     Number(u64, usize),
     Malformed,
 }
 
 // What is refused of a file's bytes (6 or 7), and its numbers: 0 for the first damaged one and all after it.
-#[derive(Drop)]
+#[derive(Clone, Copy)]
 pub struct ReadNumbers {
     pub refusal: Refusal,
     pub numbers: [u32; MOST],
@@ -32,6 +34,7 @@ fn wide(b: u8) -> u64
 }
 
 // The last group, after count others: it is not 0, since the form is the shortest.
+#[tactic(auto, unfolding(crate::specs::Decode::last_group, crate::specs::LowFirst::after))]
 fn last_group(value: u64, weight: u64, count: usize, b: u64) -> Decoded
     requires { (value < weight) × (weight ≤ 2 ^ 28) × (count ≤ 4) × (b < 128) }
     ensures { result ≡ after value weight count (last_group b) }
@@ -44,6 +47,7 @@ fn last_group(value: u64, weight: u64, count: usize, b: u64) -> Decoded
 }
 
 // A number up to 4,294,967,295.
+#[tactic(auto, unfolding(crate::specs::Decode::limit))]
 fn limited(number: Decoded) -> Decoded
     ensures { result ≡ limit number }
 {
@@ -142,8 +146,8 @@ fn one_from(least: u32, n: u32) -> u32
     if least <= n { 1 } else { 0 }
 }
 
-// How many groups a number has. It is compared and not divided, so that the lengths of several are worked out at a time.
-pub fn encoded_length(n: u32) -> u32
+// How many groups a number has, compared and not divided, so that the lengths of several are worked out at a time.
+pub fn group_count(n: u32) -> u32
     ensures { result ≡ length (encode n) }
 {
     let one_or_two = 1 + one_from(128, n);
@@ -152,16 +156,44 @@ pub fn encoded_length(n: u32) -> u32
     up_to_four + one_from(268435456, n)
 }
 
+// How many groups a number has.
+pub fn encoded_length(n: u32) -> usize
+    ensures { result ≡ length (encode n) }
+{
+    let mut x = n;
+    let mut k: usize = 1;
+    while 128 <= x {
+        x = x / 128;
+        k += 1;
+    }
+    k
+}
+
 // How many bytes the first numbers, so many, have.
-// requires: the callers pass a constant, or 25 for each of at most 200 whole rows.
-pub fn numbers_length(numbers: &[u32], count: usize) -> usize
+// requires: the callers pass a constant, as in reading.
+pub fn numbers_length(numbers: [u32; MOST], count: usize) -> usize
+    requires { count ≤ most }
+    ensures { result ≡ length (encode_all (take count numbers)) }
+{
+    let mut i: usize = 0;
+    let mut n: usize = 0;
+    while i < count {
+        n += encoded_length(numbers[i]);
+        i += 1;
+    }
+    n
+}
+
+// How many bytes the first numbers of a row, so many, have.
+// requires: the callers pass 25 for each of at most 200 whole rows.
+pub fn row_length(numbers: &[u32], count: usize) -> usize
     requires { (count ≤ length numbers.now) × (count ≤ 5000) }
     ensures { result ≡ length (encode_all (take count numbers.now)) }
 {
     let mut i: usize = 0;
     let mut n: u32 = 0;
     while i < count {
-        n += encoded_length(numbers[i]);
+        n += group_count(numbers[i]);
         i += 1;
     }
     n as usize

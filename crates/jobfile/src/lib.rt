@@ -1,9 +1,11 @@
 // Job files of both kinds: a job's numbers in groups of seven bits, read (refusals 6, 7, 3, 4, 5) and written (3, 4, 5, 8).
+#![tactic(auto)]
+
 ghost use Rattle.std.specs.Prelude.{◌≡◌, ◌++◌, ◌≤◌, length, take, drop};
 ghost use Rattle.basis.specs.Refusal.{first};
 ghost use Rattle.basis.specs.Writing.{room_refusal, written_or, left_or};
 ghost use Rattle.job.specs.Job.{numbers};
-ghost use Rattle.support.specs.Support.{numbers as supportNumbers};
+ghost use Rattle.support.specs.Support.{numbers as support_numbers};
 ghost use Rattle.groups.specs.Encode.{encode_all};
 ghost use Rattle.groups.specs.Numbers.{most};
 ghost use Rattle.jobfile.specs.Kind.{scaffold, support, marks_support};
@@ -29,7 +31,7 @@ pub const GREATEST_SUPPORT_LENGTH: usize = 24;
 pub const BEGINNING_LENGTH: usize = 126;
 
 // The job of a file, a scaffold's or a support, or why it is refused.
-#[derive(Drop)]
+#[derive(Clone, Copy)]
 pub enum ReadJob {
     Scaffold(Job),
     Support(Support),
@@ -113,7 +115,7 @@ fn write_examined(examined: Refusal, numbers: [u32; MOST], count: usize, out: &m
     ensures returned { result ≡ written_or (first examined (room_refusal (encode_all (take count numbers)) out.old)) (length (encode_all (take count numbers))) }
     ensures buffer { out.new ≡ left_or (first examined (room_refusal (encode_all (take count numbers)) out.old)) (encode_all (take count numbers)) out.old }
 {
-    let needed = numbers_length(&numbers, count);
+    let needed = numbers_length(numbers, count);
     let room = out.len();
     let short = refuse_unless(needed <= room, TOO_SHORT, needed as u64, NOTHING);
     let refused = first_of(examined, short);
@@ -133,8 +135,8 @@ pub fn write(j: Job, out: &mut [u8]) -> Written
 
 // The same for a support.
 pub fn write_support(s: Support, out: &mut [u8]) -> Written
-    ensures returned { result ≡ file_written support (supportNumbers s) out.old }
-    ensures buffer { out.new ≡ file_left support (supportNumbers s) out.old }
+    ensures returned { result ≡ file_written support (support_numbers s) out.old }
+    ensures buffer { out.new ≡ file_left support (support_numbers s) out.old }
 {
     let row = over_front(support::to_numbers(s), [0; MOST]);
     write_examined(support::examine(s), row, SUPPORT_NUMBERS, out)
