@@ -6,3 +6,4 @@ pub mod Held
 pub mod Rows
 pub mod Answered
 pub mod RoundTrip
+pub mod Marked

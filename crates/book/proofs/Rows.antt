@@ -8,7 +8,7 @@ use native.Mathlib.Omega.{arith}
 use lib.Dec.{leb, eqb, lit<}
 use lib.ListN.{length, drop}
 use borrow.Author.Tests.{le-leb, lt-leb, leb-true, leb-false, eq-eqb, ne_eqb, eqb-true, eqb-false}
-use Rattle.basis.specs.Refusal.{number, place, nothing, too_short, book_damaged, book_count, book_row, unless, first}
+use Rattle.basis.specs.Refusal.{number, nothing, too_short, book_damaged, book_count, book_row, unless, first}
 use Rattle.basis.specs.Rows.{Some}
 use Rattle.basis.specs.Writing.{room_refusal}
 use Rattle.basis.specs.declared.Refusal.{Refusal}

@@ -1,7 +1,7 @@
 -- Marked cases of request 3: books byte by byte, the counts, where damage and bad rows are named, and what is left of what was lent.
 -- Assumes nothing.
-use Rattle.std.specs.Prelude.{ℕ, refl, List, [], ◌∷◌, ◌++◌, set, replicate}
-use Rattle.basis.specs.Marked.{Row, row as case, Hold}
+use Rattle.std.specs.Prelude.{ℕ, List, [], ◌∷◌, ◌++◌, set, replicate}
+use Rattle.basis.specs.Marked.{Row, row as case}
 use Rattle.basis.specs.Search.{first_fail}
 use Rattle.basis.specs.Writing.{left_or, written_values}
 use Rattle.job.specs.JobJ.{numbers_J}
@@ -29,7 +29,7 @@ read book room = written_values (rows_read book (replicate room 0))
 unfoldable pub written : List ℕ → ℕ → List ℕ
 written rows room = written_values (book_written rows (replicate room 0))
 
-pub rows : List Row
+unfoldable pub rows : List Row
 unfolding numbers_J numbers_K two_rows
 rows =
     -- no rows are byte 00, and the other way round; no bytes are no book
@@ -68,7 +68,3 @@ rows =
 unfoldable pub books : Unit {0}
 unfolding files series joined across turned row_count columns rows_of book_of row good good_at first_bad first_fail bad_row count_refusal count_in numbers_due columns_in rows_in book_damage damage_in rows_refusal read_refusal rows_read rows_left left_or whole_book write_refusal book_written book_left
 books = tt
-
-pub marked : Hold rows
-unfolding Hold rows numbers_J numbers_K two_rows read written books
-marked = (refl, (refl, (refl, (refl, (refl, (refl, (refl, (refl, (refl, (refl, (refl, (refl, (refl, (refl, (refl, (refl, (refl, (refl, tt))))))))))))))))))

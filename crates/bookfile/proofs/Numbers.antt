@@ -6,7 +6,7 @@ use mathlib.Core.List.{List}
 use native.Mathlib.Nat.{add-zero, add_assoc}
 use native.Mathlib.Numerals.{add-one}
 use native.Mathlib.Omega.{arith}
-use lib.Dec.{T, ltb, leb, ltb→lt}
+use lib.Dec.{T, leb, ltb→lt}
 use lib.ListN.{length, drop, get_or, length-drop, length-map}
 use lib.Seq.{drop-drop}
 use borrow.Author.Tests.{leb-true, leb-false}

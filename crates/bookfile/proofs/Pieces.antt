@@ -9,14 +9,11 @@ use lib.ListN.{length, take, drop, get_or, length-append, length-drop}
 use lib.Seq.{take-append_seam, drop-append_seam}
 use borrow.Rule.Slice.PartMut.{put_mid}
 use Rattle.groups.specs.Encode.{encode, encode_all}
-use Rattle.groups.proofs.Encode.{all_few}
 use Rattle.groups.proofs.Front.{front, front_length, front_part, front_next, front_all}
 use Rattle.book.specs.Columns.{joined, across, turned}
 use Rattle.book.specs.Book.{columns, book_of}
 use Rattle.bookfile.specs.Pieces.{entry_bytes, column_bytes}
-use Rattle.book.proofs.Columns.{across_long}
 use Rattle.book.proofs.Lengths.{all_series, all_joined}
-use Rattle.book.proofs.Held.{columns_long}
 
 -- the pieces from i on, one more
 joined_more : (g : ℕ → List ℕ) (m i : ℕ) → i < m → joined g i (m - i) ≡ g i ++ joined g (i + 1) (m - (i + 1))
@@ -33,9 +30,6 @@ pub record Wrote (g : ℕ → List ℕ) (before out : List ℕ) (m i at : ℕ) :
   pub left : drop at (joined g 0 m) ≡ joined g i (m - i)
   pub within : at ≤ length (joined g 0 m)
   pub written : out ≡ front before (joined g 0 m) at
-
-pub wrote_none : (g : ℕ → List ℕ) (out : List ℕ) (m : ℕ) → Wrote g out out m 0 0
-wrote_none g out m = record { count = omega arith; left = let e : m ≡ m - 0 = omega arith in ap (joined g 0) e; within = omega arith; written = refl }
 
 module _ (g : ℕ → List ℕ) (before out : List ℕ) (m i at : ℕ) (w : Wrote g before out m i at) (h : length (joined g 0 m) ≤ length before) where
   pub wrote_length : length out ≡ length before
@@ -74,16 +68,6 @@ column_pieces n rows c = all_series (λ r. get_or rows (25 * r + c) 0) n 0
 pub columns_pieces : (n : ℕ) (rows : List ℕ) → encode_all (columns n rows) ≡ joined (column_bytes n rows) 0 25
 unfolding columns turned column_bytes
 columns_pieces n rows = all_joined (across 25 n rows) 25 0
-
--- at most five bytes for each number
-pub column_few : (n : ℕ) (rows : List ℕ) (c : ℕ) → length (joined (entry_bytes rows c) 0 n) ≤ 5 * n
-column_few n rows c = rw (← column_pieces n rows c) (few n rows c)
-  where
-    few : (n : ℕ) (rows : List ℕ) (c : ℕ) → length (column_bytes n rows c) ≤ 5 * n
-    few n rows c = unfold column_bytes in omega (arith, all_few (across 25 n rows c), across_long 25 n rows c)
-
-pub columns_few : (n : ℕ) (rows : List ℕ) → length (joined (column_bytes n rows) 0 25) ≤ 125 * n
-columns_few n rows = rw (← columns_pieces n rows) (omega (arith, all_few (columns n rows), columns_long n rows))
 
 pub entry_is : (rows : List ℕ) (c r : ℕ) → encode (get_or rows (25 * r + c) 0) ≡ entry_bytes rows c r
 unfolding entry_bytes

@@ -1,4 +1,6 @@
 // A season's book read into lent rows (refusals 10, 9, 11, 8) and written from rows (10, 11, 8), with no room for a whole book of its own.
+#![tactic(auto)]
+
 ghost use Rattle.std.specs.Prelude.{◌≡◌};
 ghost use Rattle.groups.specs.Decode.{decode};
 ghost use Rattle.groups.specs.declared.Decoded.TheVariants.{Number};
@@ -12,7 +14,7 @@ use basis::{
     BOOK_COUNT, BOOK_DAMAGED, BOOK_ROW, NOTHING, Refusal, TOO_SHORT, Written, first_of,
     refuse_unless,
 };
-use groups::{Decoded, encoded_length, number_at, numbers_length};
+use groups::{Decoded, group_count, number_at, row_length};
 
 mod columns;
 mod places;
@@ -27,6 +29,7 @@ pub const GREATEST_LENGTH: usize = 8402;
 pub const ROW: usize = 25;
 
 // What damages a job file or follows its numbers is 9 in a book.
+#[tactic(auto, unfolding(book::specs::Read::book_damage))]
 fn book_damage(refusal: Refusal) -> Refusal
     ensures { result ≡ book_damage refusal }
 {
@@ -34,6 +37,7 @@ fn book_damage(refusal: Refusal) -> Refusal
 }
 
 // 11 of the lowest bad row of n, then 8 of so many rows lent.
+#[tactic(auto, unfolding(book::specs::Read::rows_refusal, book::specs::Book::bad_row))]
 fn rows_refusal(n: usize, bad: usize, room: usize) -> Refusal
     ensures { result ≡ rows_refusal n bad room }
 {
@@ -98,8 +102,8 @@ pub fn write(rows: &[u32], out: &mut [u8]) -> Written
     }
     let bad = first_bad_of(rows, n);
     let wrong = refuse_unless(bad == n, BOOK_ROW, bad as u64, NOTHING);
-    let count = encoded_length(n as u32) as usize;
-    let needed = count + numbers_length(rows, ROW * n);
+    let count = group_count(n as u32) as usize;
+    let needed = count + row_length(rows, ROW * n);
     let room = out.len();
     let short = refuse_unless(needed <= room, TOO_SHORT, needed as u64, NOTHING);
     let refused = first_of(wrong, short);

@@ -10,7 +10,7 @@ use basis::{DAMAGED, Refusal, both_of};
 use groups::{Decoded, nothing_after, number_at};
 
 // A number and the place of the next.
-#[derive(Drop)]
+#[derive(Clone, Copy)]
 pub struct Step {
     pub value: u32,
     pub next: usize,

@@ -8,6 +8,7 @@ use crate::ROW;
 use crate::places::{next_row, sound_step};
 
 // Neither 3 nor 4 nor 5 refuses a scaffold's 25 numbers.
+#[tactic(auto, unfolding(book::specs::Book::good, jobfile::specs::Kind::examination))]
 fn good_row(numbers: [u32; ROW]) -> bool
     ensures { result ≡ good numbers }
 {

@@ -1,0 +1,17 @@
+-- `first_bad_at` meets its contract. Assumes nothing.
+use borrow.Author.Rules.{rules}
+use Rattle.bookfile.proofs.Steps.{scan_none, scan_next, scan_found, scan_end}
+use Rattle.bookfile.proofs.rows.first_bad_at.Goals as goal
+
+pub loop-row-init : goal.loop-row-init
+loop-row-init c = scan_none _ _ _ (search rules)
+
+pub returns-then-not-good_row : goal.returns-then-not-good_row
+returns-then-not-good_row c = scan_found _ _ _ _ _ c.loop-row.invariant c.next_row.ensures.returned c.good_row.ensures c.if-not-good_row.true c.loop-row-test.true
+
+pub loop-row-preserved : goal.loop-row-preserved
+loop-row-preserved c =
+    scan_next _ _ _ _ _ c.loop-row.invariant c.next_row.ensures.returned c.next_row.ensures.moving c.good_row.ensures c.if-not-good_row.false c.loop-row-test.true
+
+pub returns : goal.returns
+returns c = scan_end _ _ _ _ _ c.loop-row.invariant c.loop-row-test.false
