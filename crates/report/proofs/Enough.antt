@@ -14,7 +14,7 @@ use Rattle.job.specs.Rows.{Stands}
 use Rattle.job.proofs.Bounds.{bounds}
 use Rattle.support.specs.declared.Support.{Support}
 use Rattle.support.specs.Rows.{Stands as SupportStands}
-use Rattle.support.proofs.Bounds.{bounds as support-bounds}
+use Rattle.support.proofs.Bounds.{bounds as support_bounds}
 use Rattle.section5.specs.Section5.{verdict, judgement}
 use Rattle.section5.specs.Formwork as Formwork
 use Rattle.calculation.specs.Whole as W
@@ -24,7 +24,7 @@ use Rattle.calculation.proofs.Verdicts.{verdict_digit, due_digit}
 use Rattle.calculation.proofs.Same.{judgement_same}
 use Rattle.formwork.specs.Whole as F
 use Rattle.formwork.proofs.Most as SupportMost
-use Rattle.formwork.proofs.Same.{judgement_same as support-same}
+use Rattle.formwork.proofs.Same.{judgement_same as support_same}
 use Rattle.report.specs.Digits.{digits_within, digits}
 use Rattle.report.specs.Report.{check_lines, height_line, report}
 use Rattle.report.specs.Enough.{enough, support_enough, Enough}
@@ -76,13 +76,13 @@ job_most s j a =
 support_most : (sheet : List ℕ) (s : Support) → SupportStands s → length (report (Formwork.judgement s sheet)) ≤ support_enough
 unfolding digits_within digits report height_line check_lines F.judgement F.verdicts F.figures bound
 support_most sheet s a =
-    let r = support-bounds s a in
+    let r = support_bounds s a in
     let n = width 5 156000 tt (SupportMost.force_most r) in
     let v = width 5 156000 tt (SupportMost.force_wind_most r) in
     let w = width 4 17472 tt (SupportMost.wk_most r) in
     let m = width 7 17000000 tt (SupportMost.mw_most r) in
     let z = width 3 2930 tt (SupportMost.column_slenderness_most r) in
-    rw (support-same s sheet) (simp (length-append, check_line_length, verdict_width, pair_line_length, column_line_length) (omega arith))
+    rw (support_same s sheet) (simp (length-append, check_line_length, verdict_width, pair_line_length, column_line_length) (omega arith))
 
 pub enough_is : Enough
 enough_is = record { no_longer = job_most; support_no_longer = support_most }

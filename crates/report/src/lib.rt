@@ -1,4 +1,6 @@
 // The report of a judgement: its length, and its bytes in the caller's buffer.
+#![tactic(auto)]
+
 ghost use Rattle.std.specs.Prelude.{◌≡◌, length};
 ghost use Rattle.report.specs.Report.{report, report_written, report_left};
 ghost use Rattle.report.specs.Put.{Room, Put};
