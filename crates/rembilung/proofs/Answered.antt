@@ -2,7 +2,7 @@
 -- Assumes nothing.
 use mathlib.Core.Path.{◌≡◌, ◌∙◌, refl, ap}
 use mathlib.Core.List.{List, ◌++◌, append-nil}
-use Prim.Native.Nat.{ℕ, ◌+◌}
+use Prim.Native.Nat.{ℕ}
 use native.Mathlib.Omega.{arith}
 use lib.ListN.{length, drop, drop_of_length-le}
 use borrow.Author.Tests.{ne_eqb}
@@ -68,7 +68,7 @@ count_in_lem support ns = refl
 
 left_in_lem : (k : Kind) (ns before : List ℕ) → length ns ≡ count k → length before ≡ 25 → left_in (job_as k ns) before ≡ ns ++ drop (count k) before
 unfolding left_in job_as
-left_in_lem scaffold ns before m l = rw (numbers_job ns m, drop_of_length-le before {i = 25} (omega arith), append-nil)
+left_in_lem scaffold ns before m l = numbers_job ns m ∙ rw (drop_of_length-le before {i = 25} (omega arith), append-nil) refl
 left_in_lem support ns before m l = rw (numbers_support ns m)
 
 -- reading one

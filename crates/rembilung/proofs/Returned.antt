@@ -6,7 +6,6 @@ use Prim.Native.Nat.{ℕ}
 use lib.ListN.{drop}
 use Rattle.basis.specs.declared.Refusal.{Refusal}
 use Rattle.basis.specs.declared.Written.{Written}
-use Rattle.basis.specs.declared.Written.TheVariants as Written
 use Rattle.job.specs.declared.Job.{Job}
 use Rattle.job.specs.Job as Job
 use Rattle.support.specs.declared.Support as Declared

@@ -14,7 +14,6 @@ use Rattle.basis.specs.Writing.{room_refusal}
 use Rattle.basis.proofs.Tests.{cases}
 use Rattle.basis.proofs.Writing.{room_nothing, room_short}
 use Rattle.basis.proofs.Rows.{then_row, then_rest}
-use Rattle.sheet.specs.Bytes.{entries}
 use Rattle.sheet.specs.Sheet as Sheet
 use Rattle.sheet.specs.Rows as Entries
 use Rattle.sheet.proofs.Bytes.{entries_long}

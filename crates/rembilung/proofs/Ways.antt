@@ -93,3 +93,11 @@ module _ (sheet file out : List ℕ) where
       pub report_way : {g : Judgement} {w : Written} {c : ℕ} {after : List ℕ} → Told file entries g → w ≡ report_written g out → c ≡ written_code w → after ≡ report_left g out
           → (c ≡ call_code sheet file out) × (after ≡ call_buffer sheet file out)
       report_way t e f a = let b = reported unrefused (rw n at t) in (f ∙ ap written_code e ∙ b.0, a ∙ b.1)
+
+-- a sheet that is refused, as the code finds it
+module _ (sheet file out : List ℕ) (l : length sheet ≡ 502) (h : number (Sheet.examination (entries_of sheet)) ≡ 0 → ⊥) where
+  pub bad_sheet_code : call_code sheet file out ≡ code (Sheet.examination (entries_of sheet))
+  bad_sheet_code = sym (bad_sheet sheet file out l refl h).0
+
+  pub bad_sheet_buffer : call_buffer sheet file out ≡ out
+  bad_sheet_buffer = sym (bad_sheet sheet file out l refl h).1

@@ -1,21 +1,15 @@
 -- Marked cases of the whole call: job J's report and support S's, and of two things that are to be refused the one that comes first.
 -- Assumes nothing.
-use Rattle.std.specs.Prelude.{ℕ, ◌/◌, ◌%◌, refl, List, [], ◌∷◌, ◌++◌, set, replicate}
-use Rattle.basis.specs.Fraction.{ceil, ◌≼◌, up, down}
-use Rattle.basis.specs.Marked.{Row, row, Hold}
+use Rattle.std.specs.Prelude.{ℕ, ◌/◌, ◌%◌, List, [], ◌∷◌, ◌++◌, set, replicate}
+use Rattle.basis.specs.Marked.{Row, row}
 use Rattle.job.specs.JobJ.{numbers_J}
 use Rattle.support.specs.SupportS.{numbers_S}
 use Rattle.sheet.specs.Bytes.{entries}
 use Rattle.sheet.specs.SheetT.{sheet_T}
-use Rattle.section5.specs.Section5.{paper}
-use Rattle.section5.specs.Formwork.{clause}
-use Rattle.judge.specs.Marked.{examined}
 use Rattle.groups.specs.Encode.{encode_all}
 use Rattle.jobfile.specs.Kind.{scaffold, support}
-use Rattle.jobfile.specs.Marked.{longest, files}
-use Rattle.report.specs.Report.{report, lines}
-use Rattle.rembilung.specs.Code.{code_of, written_code}
-use Rattle.rembilung.specs.Call.{refusal_in, report_in, text, sheet_refusal, input_refusal, call_refusal, call_code}
+use Rattle.jobfile.specs.Marked.{longest}
+use Rattle.rembilung.specs.Call.{call_code}
 use Rattle.rembilung.specs.Header.{report_most}
 
 -- the bytes of a sheet's entries, low byte first
@@ -28,7 +22,7 @@ unfoldable pub returned : List ℕ → List ℕ → ℕ → List ℕ
 returned sheet file room =
     call_code (sheet_bytes sheet) file (replicate room 0) / 4294967296 ∷ call_code (sheet_bytes sheet) file (replicate room 0) % 4294967296 ∷ []
 
-pub rows : List Row
+unfoldable pub rows : List Row
 unfolding sheet_T numbers_J numbers_S longest returned encode_all
 rows =
     -- J's report has 151 bytes
@@ -52,7 +46,3 @@ rows =
     ∷ row (returned sheet_T (encode_all (set numbers_S 12 99) ++ (0 ∷ [])) 0) (7 ∷ 20 ∷ [])
     ∷ row (returned sheet_T (encode_all (set numbers_S 12 99)) 0) (3 ∷ 13 ∷ [])
     ∷ []
-
-pub marked : Hold rows
-unfolding Hold rows returned sheet_bytes paper clause ceil ◌≼◌ up down lines report examined entries files refusal_in report_in text sheet_refusal input_refusal call_refusal call_code code_of written_code
-marked = (refl, (refl, (refl, (refl, (refl, (refl, (refl, (refl, (refl, (refl, (refl, (refl, (refl, (refl, tt))))))))))))))

@@ -1,0 +1,60 @@
+// The C interface: each exported call is that of crate rembilung, with its clauses.
+#![tactic(auto)]
+
+ghost use Rattle.std.specs.Prelude.{◌≡◌};
+ghost use Rattle.jobfile.specs.Kind.{scaffold, support};
+ghost use Rattle.rembilung.specs.Call.{call_code, call_buffer, write_code, write_buffer, read_code, read_buffer, write_book_code, write_book_buffer, read_book_code, read_book_buffer};
+
+// The job file of a scaffold's 25 numbers: its length, or a refusal (3, 4, 5, 8).
+#[unsafe(no_mangle)]
+pub extern "C" fn rembilung_write_job(numbers: &[u32; 25], file: &mut [u8]) -> u64
+    ensures returned { result ≡ write_code scaffold numbers.now file.old }
+    ensures buffer { file.new ≡ write_buffer scaffold numbers.now file.old }
+{
+    rembilung::rembilung_write_job(numbers, file)
+}
+
+// The job file of a support's 13 numbers: its length, or a refusal (3, 8).
+#[unsafe(no_mangle)]
+pub extern "C" fn rembilung_write_support(numbers: &[u32; 13], file: &mut [u8]) -> u64
+    ensures returned { result ≡ write_code support numbers.now file.old }
+    ensures buffer { file.new ≡ write_buffer support numbers.now file.old }
+{
+    rembilung::rembilung_write_support(numbers, file)
+}
+
+// The numbers of a job file: 25, or 13 and the others as they were; or a refusal (6, 7, 3, 4, 5), with the numbers as they were.
+#[unsafe(no_mangle)]
+pub extern "C" fn rembilung_read_job(file: &[u8], numbers: &mut [u32; 25]) -> u64
+    ensures returned { result ≡ read_code file.now }
+    ensures buffer { numbers.new ≡ read_buffer file.now numbers.old }
+{
+    rembilung::rembilung_read_job(file, numbers)
+}
+
+// The whole call: the report's length, or a refusal (1, 2, 6, 7, 3, 4, 5, 8), with the buffer as it was.
+#[unsafe(no_mangle)]
+pub extern "C" fn rembilung_verdict(sheet: &[u8], file: &[u8], report: &mut [u8]) -> u64
+    ensures returned { result ≡ call_code sheet.now file.now report.old }
+    ensures buffer { report.new ≡ call_buffer sheet.now file.now report.old }
+{
+    rembilung::rembilung_verdict(sheet, file, report)
+}
+
+// The book of rows: its length, or a refusal (10, 11, 8 in bytes), with the buffer as it was.
+#[unsafe(no_mangle)]
+pub extern "C" fn rembilung_write_book(rows: &[u32], book: &mut [u8]) -> u64
+    ensures returned { result ≡ write_book_code rows.now book.old }
+    ensures buffer { book.new ≡ write_book_buffer rows.now book.old }
+{
+    rembilung::rembilung_write_book(rows, book)
+}
+
+// The rows of a book: how many there are, or a refusal (10, 9, 11, 8 in rows), with the rows as they were.
+#[unsafe(no_mangle)]
+pub extern "C" fn rembilung_read_book(book: &[u8], rows: &mut [u32]) -> u64
+    ensures returned { result ≡ read_book_code book.now rows.old }
+    ensures buffer { rows.new ≡ read_book_buffer book.now rows.old }
+{
+    rembilung::rembilung_read_book(book, rows)
+}
