@@ -11,7 +11,7 @@ use borrow.Author.Tests.{eq-eqb, ne_eqb, eqb-false}
 use Rattle.basis.specs.Refusal.{number, place}
 use Rattle.basis.specs.declared.Refusal.{Refusal}
 use Rattle.basis.proofs.Tests.{cases}
-use Rattle.io.specs.Counts.{IsPrefixLen}
+use Rattle.console.specs.Prefix.{IsPrefixLen}
 use Rattle.report.specs.Refused.{refused_line, written_over}
 use Rattle.basis.specs.Writing.{written_or, left_or}
 use Rattle.rembilung.specs.Code.{code_of, code, written_code}

@@ -1,6 +1,6 @@
 // What the program prints, decided from bytes.
 ghost use Rattle.std.specs.Prelude.{◌≡◌, length};
-ghost use Rattle.io.specs.Counts.{IsPrefixLen};
+ghost use Rattle.console.specs.Prefix.{IsPrefixLen};
 ghost use Rattle.report.specs.Refused.{written_over};
 ghost use Rattle.console.specs.Printed.{printed_from};
 

@@ -1,8 +1,11 @@
 // Holds `read` and `write` to the answers recorded in files.bin (tests/vectors/pack_files has its layout), and says where they differ.
+#![tactic(auto)]
+
 use basis::{NOTHING, Refusal, Written};
 use groups::read_numbers;
 use jobfile::{JOB_NUMBERS, ReadJob, SUPPORT_NUMBERS, front_of};
-use libc::STDOUT_FILENO;
+use std::io::Read;
+use std::{fs, io};
 
 fn wide(b: u8) -> u64 {
     b as u64
@@ -59,6 +62,10 @@ fn write_part(j: ReadJob, out: &mut [u8], length: usize) -> Written {
     write_any(j, &mut out[..length])
 }
 
+fn same(a: &[u8], b: &[u8]) -> bool {
+    a == b
+}
+
 fn same_front(a: &[u8], b: &[u8], n: usize) -> bool {
     if a.len() < n {
         return false;
@@ -66,7 +73,7 @@ fn same_front(a: &[u8], b: &[u8], n: usize) -> bool {
     if b.len() < n {
         return false;
     }
-    check::same(&a[..n], &b[..n])
+    same(&a[..n], &b[..n])
 }
 
 fn same_rest(a: &[u8], b: &[u8], n: usize) -> bool {
@@ -76,7 +83,7 @@ fn same_rest(a: &[u8], b: &[u8], n: usize) -> bool {
     if b.len() < n {
         return false;
     }
-    check::same(&a[n..], &b[n..])
+    same(&a[n..], &b[n..])
 }
 
 // In a buffer of a length, a job is written as its file, and the bytes after it are untouched.
@@ -100,7 +107,7 @@ fn refused_at(j: ReadJob, length: usize, number: u64, place: u64) -> bool {
     let mut out = [165u8; 96];
     let refusal = refusal_written(write_part(j, &mut out, length));
     if is_refusal(refusal, number, place) {
-        check::same(&out, &fresh)
+        same(&out, &fresh)
     } else {
         false
     }
@@ -168,32 +175,19 @@ fn write_agrees(file: &[u8], number: u64, place: u64) -> bool {
     refused_at(j, 96, number, place)
 }
 
-fn print(words: &[u8], n: u64) {
-    io::write_all(STDOUT_FILENO, words);
-    io::print_decimal(STDOUT_FILENO, n);
-}
-
-fn print_line(words: &[u8], n: u64) {
-    print(words, n);
-    io::write_all(STDOUT_FILENO, b"\n");
-}
-
 // Whether a file is answered as recorded; a line where it is not.
-fn agrees(file: &[u8], number: u64, place: u64, index: u64) -> bool {
+fn agrees<R: Print>(rt: &R, file: &[u8], number: u64, place: u64, index: u64) -> io::Result<bool> {
     let refusal = refusal_read(jobfile::read(file));
     if !is_refusal(refusal, number, place) {
-        print(b"file ", index);
-        print(b": refused ", refusal.number as u64);
-        print(b" ", refusal.place);
-        print(b", recorded ", number);
-        print_line(b" ", place);
-        return false;
+        let (read, at) = (refusal.number, refusal.place);
+        println!(rt; "file {index}: refused {read} {at}, recorded {number} {place}")?;
+        return Ok(false);
     }
     if !write_agrees(file, number, place) {
-        print_line(b"not written back as it was read: file ", index);
-        return false;
+        println!(rt; "not written back as it was read: file {index}")?;
+        return Ok(false);
     }
-    true
+    Ok(true)
 }
 
 // One more, in a table of counts.
@@ -207,53 +201,56 @@ fn count(counts: &mut [u64], k: usize) {
 }
 
 // The next record, where there is one: counted by its refusal, or as one that differs (9).
-fn check_next(fd: i32, index: u64, counts: &mut [u64]) -> bool {
+fn check_next<R: Print, F: Read>(
+    rt: &R,
+    from: &mut F,
+    index: u64,
+    counts: &mut [u64],
+) -> io::Result<bool> {
     let mut record = [0u8; 83];
-    if io::read_full(fd, &mut record) != 83 {
-        return false;
+    if from.read_exact(&mut record).is_err() {
+        return Ok(false);
     }
     let number = byte_at(&record, 0);
     let place = byte_at(&record, 1);
     let n = byte_at(&record, 2);
     if 80 < n {
-        print_line(b"a record has no such length: file ", index);
+        println!(rt; "a record has no such length: file {index}")?;
         count(&mut counts[..], 9);
-        return true;
+        return Ok(true);
     }
     let end = 3 + n as usize;
-    let same = agrees(&record[3..end], number, place, index);
+    let same = agrees(rt, &record[3..end], number, place, index)?;
     if same {
         count(&mut counts[..], number as usize);
     } else {
         count(&mut counts[..], 9);
     }
-    true
+    Ok(true)
 }
 
 // Every record; gives how many there are.
-fn check_all(fd: i32, counts: &mut [u64]) -> u64 {
-    let mut index: u64 = 0;
-    while index < 1000000 && check_next(fd, index, &mut counts[..]) {
-        index += 1;
+fn check_all<R: Print, F: Read>(rt: &R, from: &mut F, counts: &mut [u64]) -> io::Result<u64> {
+    for index in 0..1000000 {
+        if !check_next(rt, from, index, &mut counts[..])? {
+            return Ok(index);
+        }
     }
-    index
+    Ok(1000000)
 }
 
-fn main() {
-    let fd = os::open_read(b"files.bin");
-    if fd < 0 {
-        io::write_all(STDOUT_FILENO, b"no files.bin\n");
-        return;
-    }
+fn main(rt: HostRuntime) -> io::Result<()> {
+    let Ok(mut file) = fs::open(&rt, "files.bin") else {
+        return println!(rt; "no files.bin");
+    };
     let mut counts = [0u64; 10];
-    let files = check_all(fd, &mut counts);
-    libc::close(fd);
-    print_line(b"files ", files);
-    print_line(b"read ", counts[0]);
-    print_line(b"refused 3 ", counts[3]);
-    print_line(b"refused 4 ", counts[4]);
-    print_line(b"refused 5 ", counts[5]);
-    print_line(b"refused 6 ", counts[6]);
-    print_line(b"refused 7 ", counts[7]);
-    print_line(b"differ ", counts[9]);
+    let files = check_all(&rt, &mut file, &mut counts)?;
+    println!(rt; "files {files}")?;
+    println!(rt; "read {}", counts[0])?;
+    println!(rt; "refused 3 {}", counts[3])?;
+    println!(rt; "refused 4 {}", counts[4])?;
+    println!(rt; "refused 5 {}", counts[5])?;
+    println!(rt; "refused 6 {}", counts[6])?;
+    println!(rt; "refused 7 {}", counts[7])?;
+    println!(rt; "differ {}", counts[9])
 }

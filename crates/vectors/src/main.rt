@@ -1,18 +1,14 @@
 // Judges the packed vectors of data/ and compares each part of every answer with the expected one.
-ghost use Rattle.std.specs.Prelude.{◌≡◌, ◌<◌, ◌≤◌, length};
+#![tactic(auto)]
+
+ghost use Rattle.std.specs.Prelude.{◌≡◌, ◌<◌, ◌≤◌, length, IfOk};
 
 use job::Job;
 use judge::Judged;
-use libc::STDOUT_FILENO;
 use section5::{Heights, Judgement};
-
-fn say(text: &[u8]) {
-    io::write_all(STDOUT_FILENO, text);
-}
-
-fn print(n: u64) {
-    io::print_decimal(STDOUT_FILENO, n);
-}
+use std::io::Read;
+use std::rt::Files;
+use std::{fs, io};
 
 fn wide(b: u8) -> u64
     ensures { result < 256 }
@@ -151,78 +147,81 @@ fn answer_of(judged: Judged) -> [u64; 31] {
     parts_of(judgement)
 }
 
-fn print_check(name: &[u8], check: u64) {
-    say(name);
-    print(check);
-}
-
-fn print_height(k: u64) {
+fn print_height<R: Print>(rt: &R, k: u64) -> io::Result<()> {
     match k {
-        24 => say(b" stability given"),
-        25 => say(b" stability"),
-        26 => say(b" permitted given"),
-        27 => say(b" permitted"),
-        28 => say(b" wk"),
-        29 => say(b" Mw"),
-        _ => say(b" Z"),
+        24 => print!(rt; " stability given"),
+        25 => print!(rt; " stability"),
+        26 => print!(rt; " permitted given"),
+        27 => print!(rt; " permitted"),
+        28 => print!(rt; " wk"),
+        29 => print!(rt; " Mw"),
+        _ => print!(rt; " Z"),
     }
 }
 
 // The name of a part of an answer.
-fn print_name(k: u64) {
+fn print_name<R: Print>(rt: &R, k: u64) -> io::Result<()> {
     if k == 0 {
-        say(b" refusal");
+        print!(rt; " refusal")
     } else if k == 1 {
-        say(b" place");
+        print!(rt; " place")
     } else if k <= 12 {
-        print_check(b" verdict ", k - 1);
+        let check = k - 1;
+        print!(rt; " verdict {check}")
     } else if k <= 23 {
-        print_check(b" figure ", k - 12);
+        let check = k - 12;
+        print!(rt; " figure {check}")
     } else {
-        print_height(k);
+        print_height(rt, k)
     }
 }
 
 // Names a part that differs, and before the first of a vector its line; answers 1 where this or one before differs.
-fn compare_part(name: &[u8], line: u64, k: u64, found: u64, expected: u64, before: u64) -> u64
+fn compare_part<R: Print>(
+    rt: &R,
+    name: &str,
+    line: u64,
+    k: u64,
+    found: u64,
+    expected: u64,
+    before: u64,
+) -> io::Result<u64>
     requires { before ≤ 1 }
-    ensures { result ≤ 1 }
+    ensures { IfOk result (λ r. r ≤ 1) }
 {
     if found == expected {
-        return before;
+        return Ok(before);
     }
     if before == 0 {
-        say(name);
-        say(b".txt line ");
-        print(line);
-        say(b":");
+        print!(rt; "{name}.txt line {line}:")?;
     }
-    print_name(k);
-    say(b" is ");
-    print(found);
-    say(b", expected ");
-    print(expected);
-    say(b";");
-    1
+    print_name(rt, k)?;
+    print!(rt; " is {found}, expected {expected};")?;
+    Ok(1)
 }
 
 // Compares the first parts of an answer with a record's, from a place on; answers 1 where one differs, else 0.
-fn compare(name: &[u8], record: &[u8], from: usize, parts: usize, found: [u64; 31]) -> u64
+fn compare<R: Print>(
+    rt: &R,
+    name: &str,
+    record: &[u8],
+    from: usize,
+    parts: usize,
+    found: [u64; 31],
+) -> io::Result<u64>
     requires { (from ≤ 1024) × (parts ≤ 31) }
-    ensures { result ≤ 1 }
+    ensures { IfOk result (λ r. r ≤ 1) }
 {
     let line = word_at(record, 0);
     let mut differ: u64 = 0;
-    let mut k: usize = 0;
-    while k < parts {
+    for k in 0..parts {
         let expected = word_at(record, from + 4 * k);
-        differ = compare_part(name, line, k as u64, found[k], expected, differ);
-        k += 1;
+        differ = compare_part(rt, name, line, k as u64, found[k], expected, differ)?;
     }
     if differ == 1 {
-        say(b"\n");
+        println!(rt; "")?;
     }
-    differ
+    Ok(differ)
 }
 
 // The sheet that a record names stands at the front of jobs.bin: T, then C.
@@ -236,16 +235,16 @@ fn front_sheet(front: &[u8], which: u64) -> [u16; 512]
 }
 
 // Judges the next record of jobs.bin: 0 where the answer is as expected, 1 where it differs, 2 where the file is cut.
-fn next_job(fd: i32, front: &[u8]) -> u64
-    ensures { result ≤ 2 }
+fn next_job<R: Print, F: Read>(rt: &R, from: &mut F, front: &[u8]) -> io::Result<u64>
+    ensures { IfOk result (λ r. r ≤ 2) }
 {
     let mut record = [0u8; 232];
-    if io::read_full(fd, &mut record) != 232 {
-        return 2;
+    if from.read_exact(&mut record).is_err() {
+        return Ok(2);
     }
     let sheet = front_sheet(front, word_at(&record, 4));
     let judged = judge::judge(&sheet[0..251], job::from_numbers(numbers(&record)));
-    compare(b"jobs", &record, 108, 31, answer_of(judged))
+    compare(rt, "jobs", &record, 108, 31, answer_of(judged))
 }
 
 // Job J of the paper, with which every sheet is judged.
@@ -257,110 +256,100 @@ fn job_j() -> Job {
 }
 
 // Judges the next record of sheets.bin, answering as next_job does.
-fn next_sheet(fd: i32) -> u64
-    ensures { result ≤ 2 }
+fn next_sheet<R: Print, F: Read>(rt: &R, from: &mut F) -> io::Result<u64>
+    ensures { IfOk result (λ r. r ≤ 2) }
 {
     let mut record = [0u8; 1040];
-    if io::read_full(fd, &mut record) != 1040 {
-        return 2;
+    if from.read_exact(&mut record).is_err() {
+        return Ok(2);
     }
     let n = word_at(&record, 4) as usize;
     if 512 < n {
-        return 2;
+        return Ok(2);
     }
     let sheet = entries(&record, 16);
     let judged = judge::judge(&sheet[0..n], job_j());
-    compare(b"sheets", &record, 8, 2, answer_of(judged))
+    compare(rt, "sheets", &record, 8, 2, answer_of(judged))
 }
 
 // The two files of records.
-#[derive(Drop)]
+#[derive(Clone, Copy)]
 enum Kind {
     Jobs,
     Sheets,
 }
 
-fn next(kind: Kind, fd: i32, front: &[u8]) -> u64
-    ensures { result ≤ 2 }
+fn next<R: Print, F: Read>(rt: &R, kind: Kind, from: &mut F, front: &[u8]) -> io::Result<u64>
+    ensures { IfOk result (λ r. r ≤ 2) }
 {
     match kind {
-        Kind::Jobs => next_job(fd, front),
-        Kind::Sheets => next_sheet(fd),
+        Kind::Jobs => next_job(rt, from, front),
+        Kind::Sheets => next_sheet(rt, from),
     }
 }
 
-fn cut(name: &[u8], at: u64, count: u64) {
-    say(name);
-    say(b".bin is cut: it names ");
-    print(count);
-    say(b" records and has ");
-    print(at);
-    say(b"\n");
+fn cut<R: Print>(rt: &R, name: &str, at: u64, count: u64) -> io::Result<()> {
+    println!(rt; "{name}.bin is cut: it names {count} records and has {at}")
 }
 
 // The closing line, or what is wrong where the file goes on after its last record.
-fn close(name: &[u8], fd: i32, count: u64, differ: u64) {
+fn close<R: Print, F: Read>(
+    rt: &R,
+    name: &str,
+    from: &mut F,
+    count: u64,
+    differ: u64,
+) -> io::Result<()> {
     let mut more = [0u8; 1];
-    say(name);
-    if io::read_full(fd, &mut more) != 0 {
-        say(b".bin goes on after its last record\n");
-        return;
+    if from.read_exact(&mut more).is_ok() {
+        return println!(rt; "{name}.bin goes on after its last record");
     }
-    say(b": ");
-    print(count);
-    say(b" judged, ");
-    print(differ);
-    say(b" differ\n");
+    println!(rt; "{name}: {count} judged, {differ} differ")
 }
 
 // Judges each record of a file whose front is read and begins with their count.
-fn judge_each(kind: Kind, name: &[u8], fd: i32, front: &[u8]) {
+fn judge_each<R: Print, F: Read>(
+    rt: &R,
+    kind: Kind,
+    name: &str,
+    from: &mut F,
+    front: &[u8],
+) -> io::Result<()> {
     let count = word_at(front, 0);
     let mut differ: u64 = 0;
-    let mut at: u64 = 0;
-    while at < count {
-        let step = next(kind, fd, front);
+    for at in 0..count {
+        let step = next(rt, kind, from, front)?;
         if step == 2 {
-            cut(name, at, count);
-            return;
+            return cut(rt, name, at, count);
         }
         differ += step;
-        at += 1;
     }
-    close(name, fd, count, differ);
+    close(rt, name, from, count, differ)
 }
 
-fn jobs() {
-    let fd = os::open_read(b"jobs.bin");
-    if fd < 0 {
-        say(b"jobs.bin is missing\n");
-        return;
-    }
+fn jobs<R: Files + Print>(rt: &R) -> io::Result<()> {
+    let Ok(mut file) = fs::open(rt, "jobs.bin") else {
+        return println!(rt; "jobs.bin is missing");
+    };
     let mut front = [0u8; 1008];
-    if io::read_full(fd, &mut front) == 1008 {
-        judge_each(Kind::Jobs, b"jobs", fd, &front);
-    } else {
-        say(b"jobs.bin is cut inside its sheets\n");
+    if file.read_exact(&mut front).is_err() {
+        return println!(rt; "jobs.bin is cut inside its sheets");
     }
-    libc::close(fd);
+    judge_each(rt, Kind::Jobs, "jobs", &mut file, &front)
 }
 
-fn sheets() {
-    let fd = os::open_read(b"sheets.bin");
-    if fd < 0 {
-        say(b"sheets.bin is missing\n");
-        return;
-    }
+fn sheets<R: Files + Print>(rt: &R) -> io::Result<()> {
+    let Ok(mut file) = fs::open(rt, "sheets.bin") else {
+        return println!(rt; "sheets.bin is missing");
+    };
     let mut front = [0u8; 4];
-    if io::read_full(fd, &mut front) == 4 {
-        judge_each(Kind::Sheets, b"sheets", fd, &front);
-    } else {
-        say(b"sheets.bin is cut inside its count\n");
+    if file.read_exact(&mut front).is_err() {
+        return println!(rt; "sheets.bin is cut inside its count");
     }
-    libc::close(fd);
+    judge_each(rt, Kind::Sheets, "sheets", &mut file, &front)
 }
 
-fn main() {
-    jobs();
-    sheets();
+fn main(rt: HostRuntime) -> io::Result<()> {
+    jobs(&rt)?;
+    sheets(&rt)
 }

@@ -1,4 +1,8 @@
 // The program verdict: what column.dat and standard input come to. Its own run is job J under sheet T.
-fn main() {
-    console::run();
+#![tactic(auto)]
+
+use std::io;
+
+fn main(rt: HostRuntime) -> io::Result<()> {
+    console::run(&rt)
 }
