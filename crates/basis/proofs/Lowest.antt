@@ -1,44 +1,49 @@
--- Laws of a row of tests: the lowest place at which one fails, how code finds it test by test, and another test in the place of one.
+-- Laws of a row of tests: the lowest place at which one fails, one row after another, and another test in the place of one.
 -- Assumes nothing.
-use mathlib.Core.Path.{◌≡◌, ◌∙◌, refl}
+use mathlib.Core.Path.{◌≡◌, ◌∙◌, refl, ap}
 use mathlib.Core.Bool.{Bool, true, false}
-use mathlib.Core.List.{List, [], ◌∷◌}
+use mathlib.Core.List.{List, [], ◌∷◌, ◌++◌}
 use mathlib.Core.Logic.{◌⊎◌, inl, inr, ⊎_elim}
 use Prim.Native.Nat.{ℕ, zero, suc, ◌+◌, ◌<◌}
 use native.Mathlib.Nat.{zero-add}
 use native.Mathlib.Omega.{arith}
 use lib.Dec.{T}
-use lib.ListN.{get_or, set}
+use lib.ListN.{length, get_or, set}
+use Rattle.std.specs.Prelude.{Err}
 use Rattle.basis.specs.Rows.{First}
-use Rattle.basis.specs.Range.{field, lowest}
+use Rattle.basis.specs.Range.{lowest}
+use Rattle.basis.specs.Refusal.{nothing, first}
+use Rattle.basis.specs.declared.Refusal.{Refusal}
 
 -- the test at place i fails; there is none after the last
 abbrev pub Fails : List Bool → ℕ → Type 0
 Fails tests i = T (get_or tests i true) → ⊥
 
-pub lowest_all : (place rest : ℕ) (tests : List Bool) → ((i : ℕ) → T (get_or tests i true)) → lowest place tests rest ≡ rest
-unfolding lowest field
-lowest_all place rest [] h = refl
-lowest_all place rest (true ∷ tests) h = lowest_all (suc place) rest tests (λ i. h (suc i))
-lowest_all place rest (false ∷ tests) h = absurd (h 0)
+pub lowest_all : (refusal : ℕ → Refusal) (place : ℕ) (tests : List Bool) → ((i : ℕ) → T (get_or tests i true)) → lowest refusal place tests ≡ nothing
+lowest_all refusal place [] h = refl
+lowest_all refusal place (true ∷ tests) h = lowest_all refusal (suc place) tests (λ i. h (suc i))
+lowest_all refusal place (false ∷ tests) h = absurd (h 0)
 
-pub lowest_first : (place rest k : ℕ) (tests : List Bool) → First (Fails tests) k → lowest place tests rest ≡ place + k
-unfolding lowest field
-lowest_first place rest k [] f = absurd (f.here tt)
-lowest_first place rest zero (true ∷ tests) f = absurd (f.here tt)
-lowest_first place rest (suc k) (true ∷ tests) f =
-    lowest_first (suc place) rest k tests (record { here = f.here; before = λ i l. f.before (suc i) (omega arith) }) ∙ omega arith
-lowest_first place rest zero (false ∷ tests) f = omega arith
-lowest_first place rest (suc k) (false ∷ tests) f = absurd (f.before 0 (omega arith) (λ t. t))
+pub lowest_first : (refusal : ℕ → Refusal) (place k : ℕ) (tests : List Bool) → First (Fails tests) k → lowest refusal place tests ≡ Err (refusal (place + k))
+lowest_first refusal place k [] f = absurd (f.here tt)
+lowest_first refusal place zero (true ∷ tests) f = absurd (f.here tt)
+lowest_first refusal place (suc k) (true ∷ tests) f =
+    lowest_first refusal (suc place) k tests (record { here = f.here; before = λ i l. f.before (suc i) (omega arith) }) ∙ ap (λ n. Err (refusal n)) (omega arith)
+lowest_first refusal place zero (false ∷ tests) f = ap (λ n. Err (refusal n)) (omega arith)
+lowest_first refusal place (suc k) (false ∷ tests) f = absurd (f.before 0 (omega arith) (λ t. t))
 
--- places counted from 1, 0 where no test fails
-pub lowest_none : (tests : List Bool) → ((p : ℕ) → T (get_or (true ∷ tests) p true)) → lowest 1 tests 0 ≡ 0
-lowest_none tests h = lowest_all 1 0 tests (λ i. h (suc i))
+-- places counted from 1
+pub lowest_none : (refusal : ℕ → Refusal) (tests : List Bool) → ((p : ℕ) → T (get_or (true ∷ tests) p true)) → lowest refusal 1 tests ≡ nothing
+lowest_none refusal tests h = lowest_all refusal 1 tests (λ i. h (suc i))
 
-pub lowest_is : (tests : List Bool) (p : ℕ) → First (Fails (true ∷ tests)) p → (0 < p) × (lowest 1 tests 0 ≡ p)
-unfolding lowest field
-lowest_is tests zero f = absurd (f.here tt)
-lowest_is tests (suc p) f = (omega arith, lowest_first 0 0 (suc p) (true ∷ tests) f ∙ zero-add (suc p))
+pub lowest_is : (refusal : ℕ → Refusal) (tests : List Bool) (p : ℕ) → First (Fails (true ∷ tests)) p → lowest refusal 1 tests ≡ Err (refusal p)
+lowest_is refusal tests p f = lowest_first refusal 0 p (true ∷ tests) f ∙ ap (λ n. Err (refusal n)) (zero-add p)
+
+-- a row of tests after another
+pub lowest_append : (refusal : ℕ → Refusal) (place : ℕ) (tests more : List Bool) → lowest refusal place (tests ++ more) ≡ first (lowest refusal place tests) (lowest refusal (place + length tests) more)
+lowest_append refusal place [] more = ap (λ n. lowest refusal n more) (omega arith)
+lowest_append refusal place (true ∷ tests) more = lowest_append refusal (suc place) tests more ∙ ap (λ n. first (lowest refusal (suc place) tests) (lowest refusal n more)) (omega arith)
+lowest_append refusal place (false ∷ tests) more = refl
 
 -- no test fails, or there is a first that does
 pub lowest_every : (tests : List Bool) → ((i : ℕ) → T (get_or tests i true)) ⊎ ((k : ℕ) × First (Fails tests) k)
@@ -64,7 +69,3 @@ set_passes (x ∷ tests) zero test t h zero = t
 set_passes (x ∷ tests) zero test t h (suc i) = h (suc i)
 set_passes (x ∷ tests) (suc k) test t h zero = h 0
 set_passes (x ∷ tests) (suc k) test t h (suc i) = set_passes tests k test t (λ m. h (suc m)) i
-
--- one link of a chain of fields: its test and what the later fields say may be put by their definitions
-pub link : (place : ℕ) {r rest rest' : ℕ} {b b' : Bool} → r ≡ field place b rest → b ≡ b' → rest ≡ rest' → r ≡ field place b' rest'
-link place e f g = cc

@@ -1,45 +1,56 @@
--- Laws of refusals: the first of two, and what is said where nothing is refused.
+-- Laws of refusals: each has a number above 0, and what an examination that refuses nothing says of its tests.
 -- Assumes nothing.
-use mathlib.Core.Path.{◌≡◌}
+use mathlib.Core.Path.{◌≡◌, refl}
 use mathlib.Core.Bool.{Bool, true, false}
 use Prim.Native.Nat.{◌<◌}
-use native.Mathlib.Omega.{arith}
-use lib.Dec.{T, eqb}
-use borrow.Author.Tests.{eq-eqb, ne_eqb, eqb-true, eqb-false}
+use lib.Dec.{T, lit<}
+use Rattle.std.specs.Prelude.{Result, Ok, Err}
 use Rattle.basis.specs.declared.Refusal.{Refusal}
-use Rattle.basis.specs.Refusal.{number, unless, first}
-use Rattle.basis.proofs.Tests.{cases}
+use Rattle.basis.specs.declared.Refusal.TheVariants.{SheetLength, SheetEntry, FieldRange, Contradiction, UnfitWall, Damaged, Trailing, TooShort, BookDamaged, BookCount, BookRow, Disorder, CellWindow, CellRecord, CellLength, SegmentCount, SegmentRefused, SegmentDisagrees, TimberInput, Allowance}
+use Rattle.basis.specs.Refusal.{number, Examined, nothing, unless, first}
 
-pub first_rest : (a b : Refusal) → number a ≡ 0 → b ≡ first a b
-unfolding first
-first_rest a b e = simp (eq-eqb (number a) 0 e)
+pub number_pos : (r : Refusal) → 0 < number r
+number_pos (SheetLength at) = lit< tt
+number_pos (SheetEntry at) = lit< tt
+number_pos (FieldRange at) = lit< tt
+number_pos (Contradiction at) = lit< tt
+number_pos (UnfitWall at) = lit< tt
+number_pos (Damaged at) = lit< tt
+number_pos (Trailing at) = lit< tt
+number_pos (TooShort at) = lit< tt
+number_pos (BookDamaged at) = lit< tt
+number_pos (BookCount at) = lit< tt
+number_pos (BookRow at) = lit< tt
+number_pos (Disorder at) = lit< tt
+number_pos (CellWindow at) = lit< tt
+number_pos (CellRecord at) = lit< tt
+number_pos (CellLength at) = lit< tt
+number_pos (SegmentCount at) = lit< tt
+number_pos (SegmentRefused at) = lit< tt
+number_pos (SegmentDisagrees at) = lit< tt
+number_pos (TimberInput at) = lit< tt
+number_pos (Allowance at) = lit< tt
 
-pub first_here : (a b : Refusal) → (number a ≡ 0 → ⊥) → a ≡ first a b
-unfolding first
-first_here a b h = simp (ne_eqb (number a) 0 h)
+-- where two answer, the first refuses nothing and the second answers it
+pub first_answers : {A : Type 0} (a : Examined) (rest : Result A Refusal) {x : A} → first a rest ≡ Ok x → (a ≡ nothing) × (rest ≡ Ok x)
+first_answers (Ok none) rest e = (refl, e)
+first_answers (Err r) rest e = absurd (cc)
+
+-- where an examination and a value refuse, the examination does
+pub first_refuses : {A : Type 0} (a : Examined) (x : A) {r : Refusal} → first a (Ok x) ≡ Err r → a ≡ Err r
+first_refuses (Ok none) x e = absurd (cc)
+first_refuses (Err s) x e = cc
 
 -- where nothing is refused, neither refuses
-pub first_nothing : (a b : Refusal) → number (first a b) ≡ 0 → (number a ≡ 0) × (number b ≡ 0)
-unfolding first
-first_nothing a b e =
-    cases (eqb (number a) 0) (λ t. (eqb-true (number a) 0 t, rw t at e))
-    (λ t. absurd (eqb-false (number a) 0 t (rw t at e)))
+pub first_nothing : (a b : Examined) → first a b ≡ nothing → (a ≡ nothing) × (b ≡ nothing)
+first_nothing a b e = first_answers a b e
 
 -- where nothing is refused, the test has passed
-pub unless_pass : (b : Bool) (refusal rest : Refusal) → 0 < number refusal → number (unless b refusal rest) ≡ 0 → T b × (number rest ≡ 0)
-unfolding unless
-unless_pass true refusal rest l e = (tt, e)
-unless_pass false refusal rest l e = absurd (omega arith)
+pub unless_pass : {A : Type 0} (b : Bool) (r : Refusal) (rest : Result A Refusal) (x : A) → unless b r rest ≡ Ok x → T b × (rest ≡ Ok x)
+unless_pass true r rest x e = (tt, e)
+unless_pass false r rest x e = absurd (cc)
 
--- a test that passes, and one that fails
-pub unless_passes : (b : Bool) (refusal rest : Refusal) → b ≡ true → unless b refusal rest ≡ rest
-unfolding unless
-unless_passes b refusal rest e = rw e
-
-pub unless_fails : (b : Bool) (refusal rest : Refusal) → b ≡ false → unless b refusal rest ≡ refusal
-unfolding unless
-unless_fails b refusal rest e = rw e
-
--- one test of a chain: what stands in it may be put by its definition
-pub unless_link : {r x x' rest rest' : Refusal} {b b' : Bool} → r ≡ unless b x rest → b ≡ b' → x ≡ x' → rest ≡ rest' → r ≡ unless b' x' rest'
-unless_link e f g h = cc
+-- the same as a test that refuses answers it
+pub passed : {answer : Examined} {none : Unit {0}} (b : Bool) (r : Refusal) → answer ≡ unless b r nothing → answer ≡ Ok none → T b
+passed true r e f = tt
+passed false r e f = absurd (cc (e, f))

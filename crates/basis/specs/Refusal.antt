@@ -1,103 +1,88 @@
 -- The refusals of the papers, each with its number and its place: 1 to 8 are document 01's, "Numbers for what can't be judged", 9 to 20 document 02's.
 -- Assumes nothing.
-use Rattle.std.specs.Prelude.{ℕ, Bool, true, false, cond, eqb}
+use Rattle.std.specs.Prelude.{ℕ, Bool, true, false, Result, Ok, Err}
 use Rattle.basis.specs.declared.Refusal.{Refusal}
+use Rattle.basis.specs.declared.Refusal.TheVariants.{SheetLength, SheetEntry, FieldRange, Contradiction, UnfitWall, Damaged, Trailing, TooShort, BookDamaged, BookCount, BookRow, Disorder, CellWindow, CellRecord, CellLength, SegmentCount, SegmentRefused, SegmentDisagrees, TimberInput, Allowance}
 
--- the number that the papers give a refusal, 0 where nothing is refused; and its place
+-- the number that the papers give a refusal
 abbrev pub number : Refusal → ℕ
-number refusal = refusal.number
+number (SheetLength at) = 1
+number (SheetEntry at) = 2
+number (FieldRange at) = 3
+number (Contradiction at) = 4
+number (UnfitWall at) = 5
+number (Damaged at) = 6
+number (Trailing at) = 7
+number (TooShort at) = 8
+number (BookDamaged at) = 9
+number (BookCount at) = 10
+number (BookRow at) = 11
+number (Disorder at) = 12
+number (CellWindow at) = 13
+number (CellRecord at) = 14
+number (CellLength at) = 15
+number (SegmentCount at) = 16
+number (SegmentRefused at) = 17
+number (SegmentDisagrees at) = 18
+number (TimberInput at) = 19
+number (Allowance at) = 20
 
+-- and what its place is
 abbrev pub place : Refusal → ℕ
-place refusal = refusal.place
-
-abbrev pub nothing : Refusal
-nothing = record { number = 0; place = 0 }
-
 -- the sheet isn't 251 entries: its length
-abbrev pub sheet_length : ℕ → Refusal
-sheet_length n = record { number = 1; place = n }
-
+place (SheetLength at) = at
 -- the first entry that does not stand
-abbrev pub sheet_entry : ℕ → Refusal
-sheet_entry k = record { number = 2; place = k }
-
+place (SheetEntry at) = at
 -- the lowest field outside its range
-abbrev pub field_range : ℕ → Refusal
-field_range field = record { number = 3; place = field }
-
+place (FieldRange at) = at
 -- fields that contradict each other: 10 or else 12
-abbrev pub contradiction : ℕ → Refusal
-contradiction field = record { number = 4; place = field }
-
+place (Contradiction at) = at
 -- a wall unfit for a single row: field 20 or else 21
-abbrev pub unfit_wall : ℕ → Refusal
-unfit_wall field = record { number = 5; place = field }
-
+place (UnfitWall at) = at
 -- a number of a file is damaged: the offset of its first byte
-abbrev pub damaged : ℕ → Refusal
-damaged offset = record { number = 6; place = offset }
-
+place (Damaged at) = at
 -- the offset of the first extra byte
-abbrev pub trailing : ℕ → Refusal
-trailing offset = record { number = 7; place = offset }
-
+place (Trailing at) = at
 -- the buffer is too short: the length needed
-abbrev pub too_short : ℕ → Refusal
-too_short needed = record { number = 8; place = needed }
-
+place (TooShort at) = at
 -- a book's damaged number or its first extra byte: the offset
-abbrev pub book_damaged : ℕ → Refusal
-book_damaged offset = record { number = 9; place = offset }
-
+place (BookDamaged at) = at
 -- a book's count above 200
-abbrev pub book_count : ℕ → Refusal
-book_count count = record { number = 10; place = count }
-
+place (BookCount at) = at
 -- a book's first row that 3, 4 or 5 refuse, from 0
-abbrev pub book_row : ℕ → Refusal
-book_row row = record { number = 11; place = row }
-
+place (BookRow at) = at
 -- the lowest field of two jobs that is unlike or runs the wrong way
-abbrev pub disorder : ℕ → Refusal
-disorder field = record { number = 12; place = field }
-
+place (Disorder at) = at
 -- the number of records that a maximum is taken over
-abbrev pub cell_window : ℕ → Refusal
-cell_window w = record { number = 13; place = w }
-
+place (CellWindow at) = at
 -- the first wrong record of a load cell, from 0
-abbrev pub cell_record : ℕ → Refusal
-cell_record index = record { number = 14; place = index }
-
+place (CellRecord at) = at
 -- the records' length in bytes
-abbrev pub cell_length : ℕ → Refusal
-cell_length bytes = record { number = 15; place = bytes }
-
+place (CellLength at) = at
 -- the number of segments
-abbrev pub segment_count : ℕ → Refusal
-segment_count count = record { number = 16; place = count }
-
+place (SegmentCount at) = at
 -- the first segment that 3, 4 or 5 refuse, from 0
-abbrev pub segment_refused : ℕ → Refusal
-segment_refused segment = record { number = 17; place = segment }
-
+place (SegmentRefused at) = at
 -- the first segment unlike the ground's, or too high, from 0
-abbrev pub segment_disagrees : ℕ → Refusal
-segment_disagrees segment = record { number = 18; place = segment }
-
+place (SegmentDisagrees at) = at
 -- the input of a timber prop, from 1
-abbrev pub timber_input : ℕ → Refusal
-timber_input input = record { number = 19; place = input }
-
+place (TimberInput at) = at
 -- the allowance of trials
-abbrev pub allowance : ℕ → Refusal
-allowance trials = record { number = 20; place = trials }
+place (Allowance at) = at
+
+-- what examining answers: nothing is refused, or a refusal
+abbrev pub Examined : Type 0
+Examined = Result (Unit {0}) Refusal
+
+abbrev pub nothing : Examined
+nothing = Ok tt
 
 -- the rest where the test passes, else this refusal
-unfoldable pub unless : Bool → Refusal → Refusal → Refusal
+abbrev pub unless : {A : Type 0} → Bool → Refusal → Result A Refusal → Result A Refusal
 unless true refusal rest = rest
-unless false refusal rest = refusal
+unless false refusal rest = Err refusal
 
--- the first refusal of two
-unfoldable pub first : Refusal → Refusal → Refusal
-first refusal rest = cond (eqb (number refusal) 0) rest refusal
+-- the first refusal of two, and where the first refuses nothing what the second answers
+abbrev pub first : {A : Type 0} → Examined → Result A Refusal → Result A Refusal
+first (Ok none) rest = rest
+first (Err refusal) rest = Err refusal

@@ -1,7 +1,7 @@
 -- What the papers' tables of refusals say, as facts: which row applies, with its number and its place, or that none does.
 -- Assumes nothing.
-use Rattle.std.specs.Prelude.{ℕ, ◌<◌, ◌≡◌, ◌⊎◌}
-use Rattle.basis.specs.Refusal.{nothing}
+use Rattle.std.specs.Prelude.{ℕ, ◌<◌, ◌≡◌, ◌⊎◌, Result, Err}
+use Rattle.basis.specs.Refusal.{number, place, Examined, nothing}
 use Rattle.basis.specs.declared.Refusal.{Refusal}
 
 -- k is the first number of which P holds
@@ -13,10 +13,17 @@ pub record First (P : ℕ → Type 0) (k : ℕ) : Type 0 where
 abbrev pub Some : (ℕ → ℕ → Type 0) → Type 0
 Some Row = (n : ℕ) × ((p : ℕ) × Row n p)
 
--- a refusal follows a table: it is that of a row that applies, and nothing where none does; and one of the two holds
-pub record Follows (refusal : Refusal) (Row : ℕ → ℕ → Type 0) (None : Type 0) : Type 0 where
-  pub row : (n p : ℕ) → Row n p → (0 < n) × (refusal ≡ record { number = n; place = p })
-  pub none : None → refusal ≡ nothing
+-- an answer is a refusal of that number, at that place
+pub record Refused {A : Type 0} (answer : Result A Refusal) (n p : ℕ) : Type 0 where
+  pub refusal : Refusal
+  pub is : answer ≡ Err refusal
+  pub number_is : number refusal ≡ n
+  pub place_is : place refusal ≡ p
+
+-- what is refused follows a table: it is that of a row that applies, and nothing where none does; and one of the two holds
+pub record Follows (examined : Examined) (Row : ℕ → ℕ → Type 0) (None : Type 0) : Type 0 where
+  pub row : (n p : ℕ) → Row n p → Refused examined n p
+  pub none : None → examined ≡ nothing
   pub every : None ⊎ Some Row
 
 -- exactly one row applies, or none and the call answers

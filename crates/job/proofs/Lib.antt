@@ -2,3 +2,4 @@ pub mod Chain
 pub mod Numbers
 pub mod Rows
 pub mod Bounds
+pub mod Fields

@@ -1,20 +1,20 @@
 -- What is refused of a job is what the table says: row by row, and where none applies.
 -- Assumes nothing.
-use mathlib.Core.Path.{◌≡◌, ◌∙◌, refl, ap}
+use mathlib.Core.Path.{◌≡◌, ◌∙◌, refl, ap, sym}
 use mathlib.Core.Bool.{Bool, ◌||◌, true}
 use mathlib.Core.List.{◌∷◌}
 use mathlib.Core.Logic.{◌⊎◌, inl, inr, ⊎_elim}
 use Prim.Native.Nat.{ℕ, ◌≤◌, ◌<◌}
 use native.Mathlib.Omega.{arith}
 use lib.ListN.{set}
-use lib.Dec.{eqb, leb, ltb, lit<}
+use lib.Dec.{eqb, leb, ltb}
 use borrow.Author.Tests.{ltb-true, ltb-false, leb-true, leb-false, eqb-true, eqb-false, lt-ltb, le-ltb, le-leb, lt-leb, eq-eqb, ne_eqb}
-use Rattle.basis.specs.Refusal.{number, nothing, field_range, contradiction, unless}
-use Rattle.basis.specs.Rows.{Some, Follows}
+use Rattle.basis.specs.Refusal.{nothing, unless, first, Examined}
+use Rattle.basis.specs.declared.Refusal.TheVariants.{FieldRange, Contradiction, UnfitWall}
+use Rattle.basis.specs.Rows.{Some, Refused, Follows}
 use Rattle.basis.proofs.Tests.{cases, within_le}
 use Rattle.basis.proofs.Lowest.{lowest_none, lowest_is, lowest_every, set_passes}
-use Rattle.basis.proofs.Refusals.{unless_passes, unless_fails}
-use Rattle.basis.proofs.Rows.{unrefused}
+use Rattle.basis.proofs.Rows.{refused_is, unrefused}
 use Rattle.job.specs.declared.Job.{Job}
 use Rattle.job.specs.Ranges.{height_stands, geometry, loads, wind, ground, ranges, outside}
 use Rattle.job.specs.Job.{job_of, numbers}
@@ -29,41 +29,30 @@ module _ (j : Job) where
 
   -- what is left to refuse of a job whose fields are in their ranges, and of one whose fields agree
   in_range : ((p : ℕ) → Inside j p) → examination j ≡ agreement_refusal j
-  unfolding examination Inside outside
-  in_range i = unless_passes (eqb (outside j) 0) (field_range (outside j)) (agreement_refusal j) (eq-eqb (outside j) 0 (lowest_none (ranges j) i))
+  unfolding Inside outside
+  in_range i = ap (λ e. first e (agreement_refusal j)) (lowest_none FieldRange (ranges j) i)
 
-  layers_agree : j.working ≤ j.boarded → agreement_refusal j ≡ unless (leb j.q j.total) (contradiction 12) (wall_refusal j)
-  layers_agree l = unless_passes (leb j.working j.boarded) _ _ (le-leb j.working j.boarded l)
+  layers_agree : j.working ≤ j.boarded → agreement_refusal j ≡ unless (leb j.q j.total) (Contradiction 12) (wall_refusal j)
+  layers_agree l = ap (λ b. unless b (Contradiction 10) (unless (leb j.q j.total) (Contradiction 12) (wall_refusal j))) (le-leb j.working j.boarded l)
 
   agree : Agrees j → examination j ≡ wall_refusal j
-  agree a = in_range a.inside ∙ layers_agree a.layers ∙ unless_passes (leb j.q j.total) _ _ (le-leb j.q j.total a.live)
+  agree a = in_range a.inside ∙ layers_agree a.layers ∙ ap (λ b. unless b (Contradiction 12) (wall_refusal j)) (le-leb j.q j.total a.live)
 
   none_is : Stands j → examination j ≡ nothing
-  none_is s =
-      agree s.agrees
-      ∙ unless_passes (eqb j.family 1 || ltb 180 j.thickness) _ _ (either (λ w. lt-ltb 180 j.thickness w.0))
-      ∙ unless_passes (eqb j.family 1 || eqb j.make 1) _ _ (either (λ w. eq-eqb j.make 1 w.1))
+  none_is s = agree s.agrees ∙ rw (either (λ w. lt-ltb 180 j.thickness w.0), either (λ w. eq-eqb j.make 1 w.1)) refl
     where
       -- a double row asks nothing of its wall
       either : {b : Bool} → ((180 < j.thickness) × (j.make ≡ 1) → b ≡ true) → (eqb j.family 1 || b) ≡ true
       either f = cases (eqb j.family 1) (λ t. rw t refl) (λ t. rw t (f (s.wall (single (s.agrees.inside 1) (eqb-false j.family 1 t)))))
 
-  row_is : (n p : ℕ) → Row j n p → (0 < n) × (examination j ≡ record { number = n; place = p })
-  unfolding examination Inside Outside outside
-  row_is n p (Row.outside q f) =
-      let e = lowest_is (ranges j) q f in
-      (lit< tt, unless_fails (eqb (outside j) 0) (field_range (outside j)) (agreement_refusal j) (ne_eqb (outside j) 0 (λ z. omega (arith, e.0, e.1))) ∙ ap field_range e.1)
-  row_is n p (Row.layers i l) = (lit< tt, in_range i ∙ unless_fails (leb j.working j.boarded) _ _ (lt-leb j.working j.boarded l))
-  row_is n p (Row.live i l m) = (lit< tt, in_range i ∙ layers_agree l ∙ unless_fails (leb j.q j.total) _ _ (lt-leb j.q j.total m))
-  row_is n p (Row.thin a f l) =
-      (lit< tt, agree a ∙ unless_fails (eqb j.family 1 || ltb 180 j.thickness) _ _ (rw (ne_eqb j.family 1 (λ z. omega arith)) (le-ltb 180 j.thickness l)))
+  row_is : (n p : ℕ) → Row j n p → Refused (examination j) n p
+  unfolding Inside Outside outside
+  row_is n p (Row.outside q f) = refused_is (FieldRange q) (rw (lowest_is FieldRange (ranges j) q f) refl)
+  row_is n p (Row.layers i l) = refused_is (Contradiction 10) (in_range i ∙ rw (lt-leb j.working j.boarded l) refl)
+  row_is n p (Row.live i l m) = refused_is (Contradiction 12) (in_range i ∙ layers_agree l ∙ rw (lt-leb j.q j.total m) refl)
+  row_is n p (Row.thin a f l) = refused_is (UnfitWall 20) (agree a ∙ rw (ne_eqb j.family 1 (λ z. omega arith), le-ltb 180 j.thickness l) refl)
   row_is n p (Row.weak a f l m) =
-      let s = ne_eqb j.family 1 (λ z. omega arith) in (
-        lit< tt,
-        agree a
-            ∙ unless_passes (eqb j.family 1 || ltb 180 j.thickness) _ _ (rw s (lt-ltb 180 j.thickness l))
-            ∙ unless_fails (eqb j.family 1 || eqb j.make 1) _ _ (rw s (ne_eqb j.make 1 m)),
-      )
+      refused_is (UnfitWall 21) (agree a ∙ rw (ne_eqb j.family 1 (λ z. omega arith), lt-ltb 180 j.thickness l, ne_eqb j.make 1 m) refl)
 
   -- by the facts of the table, in their order
   every_is : Stands j ⊎ Some (Row j)
@@ -97,8 +86,12 @@ module _ (j : Job) where
   follows = record { row = row_is; none = none_is; every = every_is }
 
 -- a job of which nothing is refused stands
-pub unrefused_stands : (j : Job) → number (examination j) ≡ 0 → Stands j
+pub unrefused_stands : (j : Job) → examination j ≡ nothing → Stands j
 unrefused_stands j = unrefused (follows j)
+
+-- the same of what examining it answered
+pub stood : {answer : Examined} (j : Job) → answer ≡ examination j → answer ≡ nothing → Stands j
+stood j e f = unrefused_stands j (sym e ∙ f)
 
 -- a job that stands does so at every height that field 7 allows
 pub stands_at : (j : Job) (H : ℕ) → Stands j → Inside (job_of (set (numbers j) 6 H)) 7 → Stands (job_of (set (numbers j) 6 H))

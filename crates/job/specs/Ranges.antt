@@ -2,23 +2,25 @@
 -- Assumes nothing.
 use Rattle.std.specs.Prelude.{ℕ, Bool, ◌||◌, cond, List, [], ◌∷◌, ◌++◌, eqb}
 use Rattle.basis.specs.Range.{within, lowest}
+use Rattle.basis.specs.Refusal.{Examined}
+use Rattle.basis.specs.declared.Refusal.TheVariants.{FieldRange}
 use Rattle.job.specs.declared.Job.{Job}
 
 -- 3: 105, 130 or 155 (double); 60 to 150 (single)
-unfoldable pub lb_stands : ℕ → ℕ → Bool
+abbrev pub lb_stands : ℕ → ℕ → Bool
 lb_stands family lb = cond (eqb family 1) (eqb lb 105 || (eqb lb 130 || eqb lb 155)) (within 60 150 lb)
 
 -- 7: 1 to 5,000 (double), 1 to 2,400 (single)
-unfoldable pub height_stands : ℕ → ℕ → Bool
+abbrev pub height_stands : ℕ → ℕ → Bool
 height_stands family height = cond (eqb family 1) (within 1 5000 height) (within 1 2400 height)
 
 -- 18: open 1 to 2,000; half closed 300 to 700; fully closed 1 to 1,000
-unfoldable pub shield_stands : ℕ → ℕ → Bool
+abbrev pub shield_stands : ℕ → ℕ → Bool
 shield_stands enclosure shield =
     cond (eqb enclosure 1) (within 1 2000 shield) (cond (eqb enclosure 2) (within 300 700 shield) (within 1 1000 shield))
 
 -- 1 to 7
-unfoldable pub geometry : Job → List Bool
+abbrev pub geometry : Job → List Bool
 geometry j =
     within 1 2 j.family
     ∷ within 1 2 j.tube
@@ -30,7 +32,7 @@ geometry j =
     ∷ []
 
 -- 8 to 14
-unfoldable pub loads : Job → List Bool
+abbrev pub loads : Job → List Bool
 loads j =
     within 1 3 j.boards
     ∷ within 1 10 j.boarded
@@ -42,7 +44,7 @@ loads j =
     ∷ []
 
 -- 15 to 19
-unfoldable pub wind : Job → List Bool
+abbrev pub wind : Job → List Bool
 wind j =
     within 0 2000 j.wind
     ∷ within 100 4000 j.exposure
@@ -52,7 +54,7 @@ wind j =
     ∷ []
 
 -- 20 to 25
-unfoldable pub ground : Job → List Bool
+abbrev pub ground : Job → List Bool
 ground j =
     within 0 2000 j.thickness
     ∷ within 1 3 j.make
@@ -66,6 +68,6 @@ ground j =
 unfoldable pub ranges : Job → List Bool
 ranges j = geometry j ++ (loads j ++ (wind j ++ ground j))
 
--- the lowest field outside its range; 0 where there is none
-unfoldable pub outside : Job → ℕ
-outside j = lowest 1 (ranges j) 0
+-- 3, with the lowest field outside its range
+unfoldable pub outside : Job → Examined
+outside j = lowest FieldRange 1 (ranges j)

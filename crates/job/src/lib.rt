@@ -1,19 +1,19 @@
 // A scaffold job: its 25 numbers by name, and what about them is refused (refusals 3, 4 and 5).
 #![tactic(auto)]
 
+pub mod standing;
+
 ghost use Rattle.std.specs.Prelude.{◌≡◌};
 ghost use Rattle.basis.specs.Range.{lowest};
+ghost use Rattle.basis.specs.declared.Refusal.TheVariants.{FieldRange};
 ghost use Rattle.job.specs.Ranges.{lb_stands, height_stands, shield_stands, geometry, loads, wind, ground, outside};
 ghost use Rattle.job.specs.Job.{job_of, numbers};
 ghost use Rattle.job.specs.Examine.{examination};
 
-use basis::{
-    CONTRADICTION, FIELD_RANGE, NOTHING, Refusal, UNFIT_WALL, either_of, field_of, range_of,
-    refuse_unless, within_of,
-};
+use basis::{Refusal, ensure, in_range};
 
-// A job, its fields in the order of the paper and of the job file.
-#[derive(Clone, Copy)]
+// A job as it was keyed in, its fields in the order of the paper and of the job file: numbers up to 4,294,967,295, kinds too, since C and files hand them over before any is tried.
+#[derive(Clone, Copy, Debug, PartialEq, Eq)]
 pub struct Job {
     // 1 double row, 2 single
     pub family: u32,
@@ -67,80 +67,83 @@ pub struct Job {
     pub pad: u32,
 }
 
-// The job of 25 numbers.
-pub fn from_numbers(n: [u32; 25]) -> Job
-    ensures { result ≡ job_of n }
-{
-    Job {
-        family: n[0],
-        tube: n[1],
-        lb: n[2],
-        la: n[3],
-        step: n[4],
-        ties: n[5],
-        height: n[6],
-        boards: n[7],
-        boarded: n[8],
-        working: n[9],
-        q: n[10],
-        total: n[11],
-        nets: n[12],
-        weight: n[13],
-        wind: n[14],
-        exposure: n[15],
-        enclosure: n[16],
-        shield: n[17],
-        wall: n[18],
-        thickness: n[19],
-        make: n[20],
-        capacity: n[21],
-        soil: n[22],
-        strength: n[23],
-        pad: n[24],
+impl From<[u32; 25]> for Job {
+    ghost from_gives = { λ n j. j ≡ job_of n };
+
+    #[tactic(auto, unfolding(crate::specs::Job::job_of))]
+    fn from(n: [u32; 25]) -> Job {
+        Job {
+            family: n[0],
+            tube: n[1],
+            lb: n[2],
+            la: n[3],
+            step: n[4],
+            ties: n[5],
+            height: n[6],
+            boards: n[7],
+            boarded: n[8],
+            working: n[9],
+            q: n[10],
+            total: n[11],
+            nets: n[12],
+            weight: n[13],
+            wind: n[14],
+            exposure: n[15],
+            enclosure: n[16],
+            shield: n[17],
+            wall: n[18],
+            thickness: n[19],
+            make: n[20],
+            capacity: n[21],
+            soil: n[22],
+            strength: n[23],
+            pad: n[24],
+        }
     }
 }
 
-// The 25 numbers of a job.
-pub fn to_numbers(j: Job) -> [u32; 25]
-    ensures { result ≡ numbers j }
-{
-    [
-        j.family,
-        j.tube,
-        j.lb,
-        j.la,
-        j.step,
-        j.ties,
-        j.height,
-        j.boards,
-        j.boarded,
-        j.working,
-        j.q,
-        j.total,
-        j.nets,
-        j.weight,
-        j.wind,
-        j.exposure,
-        j.enclosure,
-        j.shield,
-        j.wall,
-        j.thickness,
-        j.make,
-        j.capacity,
-        j.soil,
-        j.strength,
-        j.pad,
-    ]
+impl From<Job> for [u32; 25] {
+    ghost from_gives = { λ j n. n ≡ numbers j };
+
+    #[tactic(auto, unfolding(crate::specs::Job::numbers))]
+    fn from(j: Job) -> [u32; 25] {
+        [
+            j.family,
+            j.tube,
+            j.lb,
+            j.la,
+            j.step,
+            j.ties,
+            j.height,
+            j.boards,
+            j.boarded,
+            j.working,
+            j.q,
+            j.total,
+            j.nets,
+            j.weight,
+            j.wind,
+            j.exposure,
+            j.enclosure,
+            j.shield,
+            j.wall,
+            j.thickness,
+            j.make,
+            j.capacity,
+            j.soil,
+            j.strength,
+            j.pad,
+        ]
+    }
 }
 
 // Field 3: the spacing of a double row is one of three.
 fn lb_stands(family: u32, lb: u32) -> bool
     ensures { result ≡ lb_stands family lb }
 {
-    if family == 1 {
-        either_of(lb == 105, either_of(lb == 130, lb == 155))
-    } else {
-        within_of(60, 150, lb)
+    match family {
+        1 => lb == 105 || lb == 130 || lb == 155,
+        _ => (60..=150).contains(&lb),
     }
 }
 
@@ -148,10 +151,9 @@ fn lb_stands(family: u32, lb: u32) -> bool
 fn height_stands(family: u32, height: u32) -> bool
     ensures { result ≡ height_stands family height }
 {
-    if family == 1 {
-        within_of(1, 5000, height)
-    } else {
-        within_of(1, 2400, height)
+    match family {
+        1 => (1..=5000).contains(&height),
+        _ => (1..=2400).contains(&height),
     }
 }
 
@@ -159,80 +161,86 @@ fn height_stands(family: u32, height: u32) -> bool
 fn shield_stands(enclosure: u32, shield: u32) -> bool
     ensures { result ≡ shield_stands enclosure shield }
 {
-    if enclosure == 1 {
-        return within_of(1, 2000, shield);
+    match enclosure {
+        1 => (1..=2000).contains(&shield),
+        2 => (300..=700).contains(&shield),
+        _ => (1..=1000).contains(&shield),
     }
-    if enclosure == 2 {
-        return within_of(300, 700, shield);
+}
+
+impl Job {
+    // Refuses the lowest of fields 1 to 7 outside its range; and so for the later fields.
+    fn geometry(&self) -> Result<(), Refusal>
+        ensures { result ≡ lowest FieldRange 1 (geometry self.now) }
+    {
+        in_range(1, 1, 2, self.family)?;
+        in_range(2, 1, 2, self.tube)?;
+        ensure(lb_stands(self.family, self.lb), Refusal::FieldRange(3))?;
+        in_range(4, 60, 200, self.la)?;
+        in_range(5, 60, 200, self.step)?;
+        in_range(6, 2, 3, self.ties)?;
+        ensure(
+            height_stands(self.family, self.height),
+            Refusal::FieldRange(7),
+        )
     }
-    within_of(1, 1000, shield)
-}
 
-// The lowest of fields 1 to 7 outside its range, else the rest; and so for the later fields.
-fn geometry_of(j: Job, rest: u64) -> u64
-    ensures { result ≡ lowest 1 (geometry j) rest }
-{
-    let p7 = field_of(7, height_stands(j.family, j.height), rest);
-    let p6 = range_of(6, 2, 3, j.ties, p7);
-    let p5 = range_of(5, 60, 200, j.step, p6);
-    let p4 = range_of(4, 60, 200, j.la, p5);
-    let p3 = field_of(3, lb_stands(j.family, j.lb), p4);
-    let p2 = range_of(2, 1, 2, j.tube, p3);
-    range_of(1, 1, 2, j.family, p2)
-}
+    fn loads(&self) -> Result<(), Refusal>
+        ensures { result ≡ lowest FieldRange 8 (loads self.now) }
+    {
+        in_range(8, 1, 3, self.boards)?;
+        in_range(9, 1, 10, self.boarded)?;
+        in_range(10, 1, 9, self.working)?;
+        in_range(11, 0, 10000, self.q)?;
+        in_range(12, 0, 30000, self.total)?;
+        in_range(13, 0, 5000, self.nets)?;
+        in_range(14, 50, 500, self.weight)
+    }
 
-fn loads_of(j: Job, rest: u64) -> u64
-    ensures { result ≡ lowest 8 (loads j) rest }
-{
-    let p14 = range_of(14, 50, 500, j.weight, rest);
-    let p13 = range_of(13, 0, 5000, j.nets, p14);
-    let p12 = range_of(12, 0, 30000, j.total, p13);
-    let p11 = range_of(11, 0, 10000, j.q, p12);
-    let p10 = range_of(10, 1, 9, j.working, p11);
-    let p9 = range_of(9, 1, 10, j.boarded, p10);
-    range_of(8, 1, 3, j.boards, p9)
-}
+    fn wind(&self) -> Result<(), Refusal>
+        ensures { result ≡ lowest FieldRange 15 (wind self.now) }
+    {
+        in_range(15, 0, 2000, self.wind)?;
+        in_range(16, 100, 4000, self.exposure)?;
+        in_range(17, 1, 3, self.enclosure)?;
+        ensure(
+            shield_stands(self.enclosure, self.shield),
+            Refusal::FieldRange(18),
+        )?;
+        in_range(19, 1, 2, self.wall)
+    }
 
-fn wind_of(j: Job, rest: u64) -> u64
-    ensures { result ≡ lowest 15 (wind j) rest }
-{
-    let p19 = range_of(19, 1, 2, j.wall, rest);
-    let p18 = field_of(18, shield_stands(j.enclosure, j.shield), p19);
-    let p17 = range_of(17, 1, 3, j.enclosure, p18);
-    let p16 = range_of(16, 100, 4000, j.exposure, p17);
-    range_of(15, 0, 2000, j.wind, p16)
-}
+    fn ground(&self) -> Result<(), Refusal>
+        ensures { result ≡ lowest FieldRange 20 (ground self.now) }
+    {
+        in_range(20, 0, 2000, self.thickness)?;
+        in_range(21, 1, 3, self.make)?;
+        in_range(22, 8000, 100000, self.capacity)?;
+        in_range(23, 1, 5, self.soil)?;
+        in_range(24, 10, 2000, self.strength)?;
+        in_range(25, 100, 10000, self.pad)
+    }
 
-fn ground_of(j: Job, rest: u64) -> u64
-    ensures { result ≡ lowest 20 (ground j) rest }
-{
-    let p25 = range_of(25, 100, 10000, j.pad, rest);
-    let p24 = range_of(24, 10, 2000, j.strength, p25);
-    let p23 = range_of(23, 1, 5, j.soil, p24);
-    let p22 = range_of(22, 8000, 100000, j.capacity, p23);
-    let p21 = range_of(21, 1, 3, j.make, p22);
-    range_of(20, 0, 2000, j.thickness, p21)
-}
+    // Refuses the lowest field outside its range.
+    #[tactic(auto, using(crate::proofs::Chain::parts))]
+    fn ranges(&self) -> Result<(), Refusal>
+        ensures { result ≡ outside self.now }
+    {
+        self.geometry()?;
+        self.loads()?;
+        self.wind()?;
+        self.ground()
+    }
 
-// The lowest field outside its range, 0 where there is none.
-fn outside_of(j: Job) -> u64
-    ensures { result ≡ outside j }
-{
-    geometry_of(j, loads_of(j, wind_of(j, ground_of(j, 0))))
-}
-
-// What is refused of a job: a field outside its range, then a contradiction, then the wall of a single row.
-pub fn examine(j: Job) -> Refusal
-    ensures { result ≡ examination j }
-{
-    let family = j.family;
-    let field = outside_of(j);
-    let thick = either_of(family == 1, 180 < j.thickness);
-    let sound = either_of(family == 1, j.make == 1);
-    let summed = j.q <= j.total;
-    let make = refuse_unless(sound, UNFIT_WALL, 21, NOTHING);
-    let thickness = refuse_unless(thick, UNFIT_WALL, 20, make);
-    let total = refuse_unless(summed, CONTRADICTION, 12, thickness);
-    let working = refuse_unless(j.working <= j.boarded, CONTRADICTION, 10, total);
-    refuse_unless(field == 0, FIELD_RANGE, field, working)
+    // What is refused of a job: a field outside its range, then a contradiction, then the wall of a single row.
+    pub fn examine(&self) -> Result<(), Refusal>
+        ensures { result ≡ examination self.now }
+    {
+        let double = self.family == 1;
+        self.ranges()?;
+        ensure(self.working <= self.boarded, Refusal::Contradiction(10))?;
+        ensure(self.q <= self.total, Refusal::Contradiction(12))?;
+        ensure(double || 180 < self.thickness, Refusal::UnfitWall(20))?;
+        ensure(double || self.make == 1, Refusal::UnfitWall(21))
+    }
 }

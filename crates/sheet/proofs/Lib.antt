@@ -1,4 +1,5 @@
 pub mod Bytes
+pub mod Faults
 pub mod Rows
 pub mod Falls
 pub mod Sound

@@ -1,28 +1,30 @@
 -- What is refused of a sheet is what the table says: row by row, and where none applies.
 -- Assumes nothing.
-use mathlib.Core.Path.{◌≡◌, refl}
+use mathlib.Core.Path.{◌≡◌, refl, sym}
 use mathlib.Core.Bool.{not, ◌&&◌, ◌||◌}
 use mathlib.Core.List.{List}
 use mathlib.Core.Logic.{◌⊎◌, inl, inr}
 use Prim.Native.Nat.{ℕ, ◌-◌, ◌≤◌, ◌<◌}
 use native.Mathlib.Nat.{zero-add}
 use native.Mathlib.Omega.{arith}
-use lib.Dec.{T, eqb, leb, ltb, eqb→eq, leb→le, lit<}
+use lib.Dec.{T, eqb, leb, ltb, eqb→eq, leb→le}
 use lib.ListN.{length, get_or}
 use borrow.Author.Tests.{ltb-true, ltb-false, leb-false, eqb-true, eqb-false, eq-eqb, ne_eqb}
 use Rattle.basis.specs.Range.{within}
-use Rattle.basis.specs.Refusal.{number, nothing, unless}
-use Rattle.basis.specs.Rows.{First, Some, Follows}
+use Rattle.basis.specs.Refusal.{nothing}
+use Rattle.basis.specs.declared.Refusal.TheVariants.{SheetLength, SheetEntry}
+use Rattle.basis.specs.Rows.{First, Some, Refused, Follows}
 use Rattle.basis.proofs.Tests.{cases, holds, both_left, both_right, either_elim, either_false, within_le}
-use Rattle.basis.proofs.Rows.{unrefused}
+use Rattle.basis.proofs.Rows.{refused_is, unrefused}
 use Rattle.basis.proofs.Searches.{first_fail_never, first_fail_fails, first_fail_passes}
-use Rattle.sheet.specs.Sheet.{stands, entry_stands, fault, examination}
+use Rattle.sheet.specs.Sheet.{entry_stands, fault, examination}
+use Rattle.sheet.proofs.Faults.{found as some_found, none_found}
 use Rattle.sheet.specs.Rows.{Faulty, Row, Stands, Told}
 
 module _ (s : List ℕ) where
   -- an entry stands, or it is faulty
   not_faulty : (k : ℕ) → T (entry_stands s k) → Faulty s k → ⊥
-  unfolding entry_stands stands
+  unfolding entry_stands
   not_faulty k t = go
     where
       within_1_1000 : (1 ≤ get_or s k 0) × (get_or s k 0 ≤ 1000)
@@ -44,7 +46,7 @@ module _ (s : List ℕ) where
           (both_right (eqb k 0 || leb (get_or s k 0) (get_or s (k - 1) 0)) _ later)
 
   faulty : (k : ℕ) → (T (entry_stands s k) → ⊥) → Faulty s k
-  unfolding entry_stands stands
+  unfolding entry_stands
   faulty k h =
       cases (leb 1 (get_or s k 0))
       (λ a. cases (leb (get_or s k 0) 1000)
@@ -70,18 +72,17 @@ module _ (s : List ℕ) where
       cases (ltb (fault s) k) (λ t. let u = ltb-true (fault s) k t in absurd (f.before (fault s) u (first (omega arith)).here))
       (λ t. cases (ltb k (fault s)) (λ u. absurd (passes k (ltb-true k (fault s) u) f.here)) (λ u. omega (arith, ltb-false (fault s) k t, ltb-false k (fault s) u)))
 
-  none_found : ((k : ℕ) → k ≤ 250 → Faulty s k → ⊥) → fault s ≡ 251
+  unfaulted : ((k : ℕ) → k ≤ 250 → Faulty s k → ⊥) → fault s ≡ 251
   unfolding fault
-  none_found h = first_fail_never (entry_stands s) 251 0 (λ k l. rw zero-add (cases (entry_stands s k) holds (λ t. absurd (h k (omega arith) (faulty k (λ z. rw t at z))))))
+  unfaulted h = first_fail_never (entry_stands s) 251 0 (λ k l. rw zero-add (cases (entry_stands s k) holds (λ t. absurd (h k (omega arith) (faulty k (λ z. rw t at z))))))
 
-  row_is : (n p : ℕ) → Row s n p → (0 < n) × (examination s ≡ record { number = n; place = p })
-  unfolding examination unless
-  row_is n p (Row.other_length h) = (lit< tt, rw (ne_eqb (length s) 251 h))
-  row_is n p (Row.entry k l u f) = let e = found k u f in (lit< tt, rw (l, ne_eqb (fault s) 251 (λ z. omega arith), e))
+  row_is : (n p : ℕ) → Row s n p → Refused (examination s) n p
+  row_is n p (Row.other_length h) = refused_is (SheetLength (length s)) (rw (ne_eqb (length s) 251 h) refl)
+  row_is n p (Row.entry k l u f) =
+      refused_is (SheetEntry k) (rw (eq-eqb (length s) 251 l, ← some_found s k (omega arith) (sym (found k u f))) refl)
 
   none_is : Stands s → examination s ≡ nothing
-  unfolding examination unless
-  none_is h = rw (h.long, none_found h.entries) refl
+  none_is h = rw (eq-eqb (length s) 251 h.long, ← none_found s (unfaulted h.entries)) refl
 
   every_is : Stands s ⊎ Some (Row s)
   every_is =
@@ -96,7 +97,7 @@ module _ (s : List ℕ) where
   follows = record { row = row_is; none = none_is; every = every_is }
 
 -- a sheet of which nothing is refused stands
-pub unrefused_stands : (s : List ℕ) → number (examination s) ≡ 0 → Stands s
+pub unrefused_stands : (s : List ℕ) → examination s ≡ nothing → Stands s
 unrefused_stands s = unrefused (follows s)
 
 pub told : Told

@@ -1,7 +1,7 @@
 -- Of a sheet that falls from at most 1,000 to at least 117 nothing is refused.
 -- Assumes nothing.
-use mathlib.Core.Bool.{◌&&◌}
-use mathlib.Core.Path.{◌≡◌}
+use mathlib.Core.Bool.{true, ◌&&◌}
+use mathlib.Core.Path.{◌≡◌, sym}
 use mathlib.Core.Logic.{◌⊎◌, inl, inr}
 use mathlib.Core.List.{List}
 use Prim.Native.Nat.{ℕ, zero, suc, ◌-◌, ◌≤◌, ◌<◌}
@@ -10,7 +10,7 @@ use native.Mathlib.Omega.{arith}
 use lib.Dec.{T, leb, leb→le, lit≤}
 use lib.ListN.{length, get_or}
 use Rattle.basis.specs.Refusal.{nothing}
-use Rattle.basis.proofs.Tests.{both_left, both_right}
+use Rattle.basis.proofs.Tests.{holds, both_left, both_right}
 use Rattle.sheet.specs.Sheet.{examination}
 use Rattle.sheet.specs.Rows.{Faulty}
 use Rattle.sheet.specs.Pass.{falling, sound}
@@ -53,5 +53,9 @@ module _ (s : List ℕ) (h : T (sound s)) where
   no_fault k l (Faulty.rises p u) = let e : suc (k - 1) ≡ k = omega arith in omega (arith, rw e at (next (k - 1) (omega arith)))
   no_fault k l (Faulty.low e u) = omega (arith, least k l)
 
-  pub sound_unrefused : length s ≡ 251 → examination s ≡ nothing
-  sound_unrefused l = (told.told s).none (record { long = l; entries = no_fault })
+  -- as the code finds it
+  unrefused : length s ≡ 251 → examination s ≡ nothing
+  unrefused l = (told.told s).none (record { long = l; entries = no_fault })
+
+pub sound_unrefused : (s : List ℕ) → length s ≡ 251 → true ≡ sound s → examination s ≡ nothing
+sound_unrefused s l e = unrefused s (holds (sym e)) l

@@ -8,5 +8,5 @@ falling sheet zero = true
 falling sheet (suc n) = falling sheet n && leb (get_or sheet (suc n) 0) (get_or sheet n 0)
 
 -- the sheet falls from at most 1,000 to at least 117
-unfoldable pub sound : List ℕ → Bool
+abbrev pub sound : List ℕ → Bool
 sound sheet = leb (get_or sheet 0 0) 1000 && (leb 117 (get_or sheet 250 0) && falling sheet 250)

@@ -1,7 +1,7 @@
 -- The stability factor of a sheet, in whole numbers: its numerator and its denominator at a slenderness of so many tenths; and that it weakens.
 -- Assumes nothing.
 use Rattle.std.specs.Prelude.{cond, ℕ, ◌+◌, ◌-◌, ◌*◌, ◌/◌, ◌%◌, ◌≤◌, ◌<◌, ◌≡◌, List, get_or, leb}
-use Rattle.sheet.specs.declared.StabilityFactor.{StabilityFactor}
+use Rattle.sheet.specs.declared.standing.StabilityFactor.{StabilityFactor}
 use Rattle.sheet.specs.Rows.{Stands}
 
 -- z tenths, down and up to a whole number

@@ -1,13 +1,13 @@
 -- Document 02, request 2: each field of a support with its range, in its order; and refusal 3.
 -- Assumes nothing.
-use Rattle.std.specs.Prelude.{ℕ, Bool, List, [], ◌∷◌, eqb}
+use Rattle.std.specs.Prelude.{Bool, List, [], ◌∷◌}
 use Rattle.basis.specs.Range.{within, lowest}
-use Rattle.basis.specs.Refusal.{unless, nothing, field_range}
-use Rattle.basis.specs.declared.Refusal.{Refusal}
+use Rattle.basis.specs.Refusal.{Examined}
+use Rattle.basis.specs.declared.Refusal.TheVariants.{FieldRange}
 use Rattle.support.specs.declared.Support.{Support}
 
 -- whether each field stands; the first is 3, and the ranges are otherwise those of document 01
-unfoldable pub ranges : Support → List Bool
+abbrev pub ranges : Support → List Bool
 ranges s =
     within 3 3 s.kind
     ∷ within 1 2 s.tube
@@ -24,10 +24,6 @@ ranges s =
     ∷ within 100 10000 s.pad
     ∷ []
 
--- the lowest field outside its range; 0 where there is none
-unfoldable pub outside : Support → ℕ
-outside s = lowest 1 (ranges s) 0
-
--- 3; 4 and 5 do not occur
-unfoldable pub examination : Support → Refusal
-examination s = unless (eqb (outside s) 0) (field_range (outside s)) nothing
+-- 3, the lowest field outside its range; 4 and 5 do not occur
+abbrev pub examination : Support → Examined
+examination s = lowest FieldRange 1 (ranges s)

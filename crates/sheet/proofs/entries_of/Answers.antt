@@ -1,10 +1,9 @@
--- `entries_of` meets its contract: the invariant is that the entries before the place are read. Assumes nothing.
+-- `entries_of` meets its contract. Assumes nothing.
 use mathlib.Core.Path.{◌≡◌, refl, ◌∙◌}
 use mathlib.Core.List.{List}
 use Prim.Native.Nat.{ℕ, ◌+◌, ◌*◌, ◌<◌}
 use native.Mathlib.Numerals.{add-one}
 use native.Mathlib.Omega.{arith}
-use lib.Dec.{lit≤}
 use lib.ListN.{length, take, set, get_or, length-set}
 use lib.Seq.{take-suc-set}
 use Rattle.sheet.specs.Bytes.{entry, entries}
@@ -15,10 +14,10 @@ step : (bytes sheet : List ℕ) (k e : ℕ) → k < length sheet → take k shee
 unfolding entries
 step bytes sheet k e l t f = rw add-one (take-suc-set sheet k e l ∙ rw (t, f))
 
-pub loop-at-init : goal.loop-at-init
-loop-at-init c = unfold entries in (lit≤ tt, refl, refl)
+pub loop-k-init : goal.loop-k-init
+loop-k-init c = unfold entries in (refl, refl)
 
-pub loop-at-preserved : goal.loop-at-preserved
-loop-at-preserved c =
-    let l = c.loop-at in
-    (omega arith, simp length-set l.invariant.1, step _ _ _ _ (omega arith) l.invariant.2 c.entry_of.ensures)
+pub loop-k-preserved : goal.loop-k-preserved
+loop-k-preserved c =
+    let l = c.loop-k in
+    (simp length-set l.invariant.0, step _ _ _ _ (omega arith) l.invariant.1 (c.from_le_bytes.ensures ∙ omega arith))

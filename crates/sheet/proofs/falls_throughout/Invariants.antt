@@ -1,11 +1,7 @@
 -- `falls_throughout` meets its contract: the invariant is that the entries up to the place fall as far as is said. Assumes nothing.
 use mathlib.Core.Path.{◌≡◌}
-use Prim.Native.Nat.{◌-◌, ◌≤◌}
 use Rattle.sheet.specs.Pass.{falling}
 use Rattle.sheet.proofs.falls_throughout.Given as goal
 
 abbrev pub invariant-loop-k : goal.invariant-loop-k
-invariant-loop-k l = (l.k ≤ 250) × (l.so_far ≡ falling l.sheet l.k)
-
-abbrev pub decreases-loop-k : goal.decreases-loop-k
-decreases-loop-k l = 250 - l.k
+invariant-loop-k l = l.so_far ≡ falling l.sheet l.k
