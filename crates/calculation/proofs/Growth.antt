@@ -10,8 +10,8 @@ use Rattle.job.specs.declared.Job.{Job}
 use Rattle.section5.specs.Section5 as P
 use Rattle.section5.specs.Harsher.{Harsher}
 use Rattle.section5.proofs.LengthFactor.{length_factor_grows}
-use Rattle.calculation.specs.declared.loads.Load.{Load}
-use Rattle.calculation.specs.Whole.{radius, soil_factor, ground_capacity, shape, wind_pressure, wind_moment, wk, mw, deck, fittings, deck_live, deck_load, raised, load, force, force_wind, column_tenths, column_slenderness, transom_moment, transom_load, ledger_moment, ledger_load, slip, face, tie_force}
+use Rattle.calculation.specs.Parts.{Load}
+use Rattle.calculation.specs.Whole.{radius, soil_factor, ground_capacity, wind_pressure, wind_moment, wk, mw, deck, fittings, deck_live, load, force, force_wind, column_tenths, column_slenderness, transom_moment, transom_load, ledger_moment, ledger_load, slip, face, tie_force}
 use Rattle.calculation.proofs.Slenderness.{rounded_tenths_grows}
 
 pub wind_pressure_grows : {e e' f f' w w' : ℕ} → e ≤ e' → f ≤ f' → w ≤ w' → wind_pressure e f w ≤ wind_pressure e' f' w'
@@ -33,7 +33,6 @@ module _ {l m : Load} (d : l.dead ≤ m.dead) (v : l.live ≤ m.live) where
 
 pub capacity_falls : (soil soil' : ℕ) {strength strength' pad pad' : ℕ} → T (P.soil_factor soil' ≼ P.soil_factor soil) → strength' ≤ strength → pad' ≤ pad
     → ground_capacity soil' strength' pad' ≤ ground_capacity soil strength pad
-unfolding ground_capacity
 capacity_falls soil soil' s p q = search (mono, factor_falls s) depth 12
   where
     factor_falls : T (P.soil_factor soil' ≼ P.soil_factor soil) → soil_factor soil' ≤ soil_factor soil
@@ -48,7 +47,7 @@ module _ {j k : Job} (h : Harsher j k) where
   column_slenderness_grows = rounded_tenths_grows (ceil_grows (search (mono, factor_grows) depth 12) (ap (λ (t : ℕ). 100 * radius t) h.tube))
 
   pub wk_grows : wk j ≤ wk k
-  unfolding wk shape
+  unfolding wk
   wk_grows = wind_pressure_grows h.exposure (search (mono, h.enclosure, h.wall) depth 12) h.wind
 
   pub mw_grows : mw j ≤ mw k
@@ -56,7 +55,6 @@ module _ {j k : Job} (h : Harsher j k) where
   mw_grows = wind_moment_grows wk_grows h.la h.step
 
   deck_grows : deck j.family j.lb ≤ deck k.family k.lb
-  unfolding deck
   deck_grows = search (mono, h.family) depth 12
 
   fittings_grows : fittings j ≤ fittings k
@@ -68,11 +66,11 @@ module _ {j k : Job} (h : Harsher j k) where
   deck_live_grows = search (mono, deck_grows) depth 12
 
   pub force_grows : {H H' : ℕ} → H ≤ H' → force (load j H) ≤ force (load k H')
-  unfolding load raised deck_load
+  unfolding load
   force_grows l = force_of_grows (search (mono, fittings_grows) depth 12) deck_live_grows
 
   pub force_wind_grows : {H H' : ℕ} → H ≤ H' → force_wind (load j H) ≤ force_wind (load k H')
-  unfolding load raised deck_load
+  unfolding load
   force_wind_grows l = force_wind_of_grows (search (mono, fittings_grows) depth 12) deck_live_grows
 
   pub transom_moment_grows : transom_moment j ≤ transom_moment k
@@ -96,7 +94,6 @@ module _ {j k : Job} (h : Harsher j k) where
   slip_grows = search (mono, h.boards) depth 12
 
   pub face_grows : face j.ties j.step j.la ≤ face k.ties k.step k.la
-  unfolding face
   face_grows = search mono depth 12
 
   pub tie_force_grows : tie_force j (wk j) ≤ tie_force k (wk k)

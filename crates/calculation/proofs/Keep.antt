@@ -33,21 +33,17 @@ module _ (s : List ℕ) (f : Stands s) {tube tube' z z' : ℕ} (e : tube ≡ tub
   weaker = weakens.weaker s f l
 
   pub bears_kept : {n n' : ℕ} → n ≤ n' → Keeps (bears (column_at s tube z) n) (bears (column_at s tube' z') n')
-  unfolding column_at
   bears_kept p = bears_keep (column_at s tube z) (column_at s tube' z') weaker (ap area e) p
 
   pub bends_kept : {n n' m m' : ℕ} → n ≤ n' → m ≤ m' → Keeps (bends (column_at s tube z) n m) (bends (column_at s tube' z') n' m')
-  unfolding column_at
   bends_kept p q = bends_keep (column_at s tube z) (column_at s tube' z') weaker (ap area e) (area_pos tube') (ap modulus e) p q
 
 -- 10 and 11
 pub base_kept : {n n' : ℕ} → n ≤ n' → Keeps (base_bears n) (base_bears n')
-unfolding base_bears
 base_kept l = le_keep l (le_refl 40000)
 
 pub ground_kept : (soil soil' : ℕ) {strength strength' pad pad' n n' : ℕ} → T (soil_factor soil' ≼ soil_factor soil) → strength' ≤ strength → pad' ≤ pad → n ≤ n'
     → Keeps (ground_bears soil strength pad n) (ground_bears soil' strength' pad' n')
-unfolding ground_bears
 ground_kept soil soil' s p q l = le_keep (mul-le-mul_left 100 l) (capacity_falls soil soil' s p q)
 
 module _ (s : List ℕ) {j k : Job} (h : Harsher j k) (b : Bounds k) (f : Stands s) where
@@ -56,27 +52,21 @@ module _ (s : List ℕ) {j k : Job} (h : Harsher j k) (b : Bounds k) (f : Stands
   limit f e = le_of_eq (ap f (sym e))
 
   keep1 : Keeps (check1 j) (check1 k)
-  unfolding check1
   keep1 = le_keep (transom_moment_grows h) (limit (λ t. 205 * modulus t) h.tube)
 
   keep2 : Keeps (check2 j) (check2 k)
-  unfolding check2
   keep2 = deflects_keep (transom_load_grows h) h.lb b.lb_pos (ap (λ t. 1536 * stiffness t) h.tube)
 
   keep3 : Keeps (check3 j) (check3 k)
-  unfolding check3
   keep3 = le_keep (ledger_moment_grows h) (limit (λ t. 205 * modulus t) h.tube)
 
   keep4 : Keeps (check4 j) (check4 k)
-  unfolding check4
   keep4 = deflects_keep (ledger_load_grows h) h.la b.la_pos (ap (λ t. 4000000 * stiffness t) h.tube)
 
   keep5 : Keeps (check5 j) (check5 k)
-  unfolding check5
   keep5 = le_keep (slip_grows h) (le_refl 8000)
 
   keep6 : Keeps (check6 j) (check6 k)
-  unfolding check6
   keep6 = le_keep (mul-le-mul (factor_grows h) h.step) (mul-le-mul (limit slender_limit h.family) (limit radius h.tube))
 
   keep7 : {n n' : ℕ} → n ≤ n' → Keeps (bears (column_of s j) n) (bears (column_of s k) n')
@@ -88,11 +78,9 @@ module _ (s : List ℕ) {j k : Job} (h : Harsher j k) (b : Bounds k) (f : Stands
   keep8 l = bends_kept s f h.tube (column_slenderness_grows h) l (mw_grows h)
 
   keep_not_due : Keeps (not_due j) (not_due k)
-  unfolding not_due
   keep_not_due = both_keep (le_keep h.wind (le_refl 350)) (both_keep (eq_keep 1 h.enclosure) (le_keep (face_grows h) (le_refl 300000)))
 
   keep9 : Keeps (check9 j (wk j)) (check9 k (wk k))
-  unfolding check9
   keep9 = le_keep (tie_force_grows h) h.capacity
 
   pub keep_poles : {H H' : ℕ} → H ≤ H' → Keeps (poles (column_of s j) (deck_load j) j.weight (mw j) (not_due j) H) (poles (column_of s k) (deck_load k) k.weight (mw k) (not_due k) H')

@@ -4,5 +4,6 @@ pub mod Same
 pub mod Growth
 pub mod Verdicts
 pub mod Limits
+pub mod Ceil
 pub mod Most
 pub mod Keep

@@ -8,7 +8,7 @@ use native.Mathlib.Omega.{arith}
 use lib.Dec.{T, leb, leb→le, le→leb}
 use Rattle.basis.proofs.Tests.{Keeps, both_keep, leb_keep, le_keep, leb_same}
 use Rattle.sheet.specs.StabilityFactor.{Weaker}
-use Rattle.calculation.specs.declared.columns.Column.{Column}
+use Rattle.calculation.specs.Parts.{Column}
 use Rattle.calculation.specs.Whole.{deflects, bears, bends}
 
 -- the span cancels

@@ -12,9 +12,8 @@ use Rattle.basis.proofs.Fits.{ceil_below}
 use Rattle.job.specs.declared.Job.{Job}
 use Rattle.job.specs.Bounds.{Bounds}
 use Rattle.section5.proofs.LengthFactor.{length_factor_most}
-use Rattle.calculation.specs.declared.loads.Load.{Load}
-use Rattle.calculation.specs.declared.columns.Column.{Column}
-use Rattle.calculation.specs.Whole.{board, rail, stiffness, overhang, shape_unit, tie_base, height_limit, shape, wind_pressure, wind_moment, wk, mw, deck, fittings, deck_live, deck_load, raised, load, force, force_wind, rounded_tenths, column_tenths, column_slenderness, slenderness, transom_moment, transom_load, transom_deflection, ledger_moment, ledger_load, ledger_deflection, slip, face, tie_force, permitted}
+use Rattle.calculation.specs.Parts.{Load, Column}
+use Rattle.calculation.specs.Whole.{board, rail, overhang, shape_unit, tie_base, height_limit, shape, wind_pressure, wind_moment, wk, mw, deck, fittings, deck_live, load, force, force_wind, rounded_tenths, column_tenths, column_slenderness, slenderness, transom_moment, transom_load, transom_deflection, ledger_moment, ledger_load, ledger_deflection, slip, face, tie_force, permitted}
 use Rattle.calculation.specs.Division.{limit7, limit8}
 use Rattle.calculation.specs.Bounded.{WithinSixteen, Proper}
 use Rattle.calculation.proofs.Slenderness.{rounded_tenths_grows}
@@ -35,7 +34,6 @@ pub shape_unit_most : (e w : ℕ) → shape_unit e w ≤ 156
 shape_unit_most e w = cond_below (eqb e 1) (lit≤ tt) (mul-le-mul_left 12 (cond_below (eqb w 1) (lit≤ tt) (le_refl 13)))
 
 pub permitted_most : (f H : ℕ) → permitted f H ≤ 5000
-unfolding permitted
 permitted_most f H = le_trans (min-le_right _ (height_limit f)) (cond_below (eqb f 1) (le_refl 5000) (lit≤ tt))
 
 -- a division up by a number that depends on the tube
@@ -47,7 +45,6 @@ tube_below {n} {m} tube f x y b p q h = go (eqb tube 1)
     go false = ceil_below (f y) b q h
 
 pub shape_most : (enclosure wall : ℕ) {shield : ℕ} → shield ≤ 2000 → shape enclosure wall shield ≤ 312000
-unfolding shape
 shape_most enclosure wall l = mul-le-mul (shape_unit_most enclosure wall) l
 
 pub wind_pressure_most : {exposure form wind : ℕ} → exposure ≤ 4000 → form ≤ 312000 → wind ≤ 2000 → wind_pressure exposure form wind ≤ 17472
@@ -63,11 +60,9 @@ unfolding rounded_tenths ceil
 rounded_tenths_most l = rounded_tenths_grows {u = 2930} l
 
 pub deck_most : (family : ℕ) {lb : ℕ} → lb ≤ 155 → deck family lb ≤ 155 + 30
-unfolding deck
 deck_most family l = search (mono, overhang_most) depth 12
 
 pub face_most : {ties step la : ℕ} → ties ≤ 3 → step ≤ 200 → la ≤ 200 → face ties step la ≤ 3 * 200 * (3 * 200)
-unfolding face
 face_most t s a = search mono depth 12
 
 module _ {j : Job} (r : Bounds j) where
@@ -126,20 +121,20 @@ module _ {j : Job} (r : Bounds j) where
   ledger_load_most = search (mono, board_most) depth 12
 
   pub transom_deflection_most : transom_deflection j ≤ 99999
-  unfolding transom_deflection stiffness ceil
+  unfolding transom_deflection ceil
   transom_deflection_most = tube_below j.tube (λ i. 1536 * (206000 * i)) 121900 130800 (1000 * ((350 + 10000) * 200 * (155 * 155 * 155) * 155)) tt tt (search (mono, transom_load_most) depth 12)
 
   pub ledger_deflection_most : ledger_deflection j ≤ 99999
-  unfolding ledger_deflection stiffness ceil
+  unfolding ledger_deflection ceil
   ledger_deflection_most = tube_below j.tube (λ i. 4000 * (206000 * i)) 121900 130800 ((1146 * 350 + 1615 * 10000) * (200 * 200 * 200) * 155 * 200) tt tt (search (mono, ledger_load_most) depth 12)
 
   -- N and Nw at the job's own height
   pub force_own_most : force (load j j.height) ≤ 142000
-  unfolding force load raised deck_load ceil
+  unfolding force load ceil
   force_own_most = ceil_below 200000 (12 * (200 * 500 * 5000 + 280000000) + 14 * 1110000000) tt (search (mono, fittings_most, deck_live_most) depth 12)
 
   pub force_wind_own_most : force_wind (load j j.height) ≤ 142000
-  unfolding force_wind load raised deck_load ceil
+  unfolding force_wind load ceil
   force_wind_own_most = ceil_below 2000000 (120 * (200 * 500 * 5000 + 280000000) + 119 * 1110000000) tt (search (mono, fittings_most, deck_live_most) depth 12)
 
 module _ (l : Load) (w : WithinSixteen l) where

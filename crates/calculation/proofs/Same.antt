@@ -26,25 +26,25 @@ above_tens c = omega arith
 -- checks 7, 8, 10 and 11 of any force; 7 and 8 under any sheet, at a slenderness x that is t tenths up
 module _ (x : Ratio) (pos : 0 < x.under) {t : ℕ} (is : up (whole 10 ⊗ x) ≡ t) (s : List ℕ) (tube n : ℕ) where
   pub bears_same : P.bears (P.stability_factor s (P.rounded x)) (P.tube_area tube) n ≡ W.bears (W.column_at s tube (W.rounded_tenths t)) n
-  unfolding fractions ◌≼◌ P.given P.entry P.bears line over under W.column_at W.bears
+  unfolding fractions ◌≼◌ P.given P.entry P.bears line over under W.bears
   bears_same =
       read_by x pos is s (λ φ z. P.bears φ (P.tube_area tube) n ≡ W.bears (W.column_at s tube z) n)
       (λ l. rw (le-leb t 2500 l) (same _ _ (omega tests)))
       (λ c l. rw (lt-leb (10 * c) 2500 (omega arith), above_tens c) (same _ _ (omega tests)))
 
   pub bends_same : (m : ℕ) → P.bends (P.stability_factor s (P.rounded x)) (P.tube_area tube) (P.tube_modulus tube) n m ≡ W.bends (W.column_at s tube (W.rounded_tenths t)) n m
-  unfolding fractions ◌≼◌ P.given P.entry P.bends line over under W.column_at W.bends
+  unfolding fractions ◌≼◌ P.given P.entry P.bends line over under W.bends
   bends_same m =
       read_by x pos is s (λ φ z. P.bends φ (P.tube_area tube) (P.tube_modulus tube) n m ≡ W.bends (W.column_at s tube z) n m)
       (λ l. rw (le-leb t 2500 l) (same _ _ (omega tests)))
       (λ c l. rw (lt-leb (10 * c) 2500 (omega arith), above_tens c) (same _ _ (omega tests)))
 
 pub base_bears_same : (n : ℕ) → P.base_bears n ≡ W.base_bears n
-unfolding fractions ◌≼◌ P.base_bears W.base_bears
+unfolding fractions ◌≼◌ P.base_bears
 base_bears_same n = same _ _ (omega tests)
 
 pub ground_bears_same : (soil strength pad n : ℕ) → P.ground_bears soil strength pad n ≡ W.ground_bears soil strength pad n
-unfolding fractions ◌≼◌ P.given P.ground_capacity P.ground_bears W.ground_capacity W.ground_bears
+unfolding fractions ◌≼◌ P.given P.ground_capacity P.ground_bears
 ground_bears_same soil strength pad n = same _ _ (omega tests)
 
 -- Mw of wk, bay and step
@@ -54,17 +54,17 @@ wind_moment_same w la step = up_is _ _ _ (omega arith)
 
 module _ (j : Job) where
   pub wk_same : P.wk j ≡ W.wk j
-  unfolding fractions P.given P.shape P.wind_pressure P.wk W.shape W.wind_pressure W.wk
+  unfolding fractions P.given P.shape P.wind_pressure P.wk W.wind_pressure W.wk
   wk_same =
       cases (P.is_open j) (λ e. rw e (up_is _ _ _ (omega arith)))
       (λ e. cases (eqb j.wall 1) (λ u. rw (e, u) (up_is _ _ _ (omega arith))) (λ u. rw (e, u) (up_is _ _ _ (omega arith))))
 
   pub N_same : (H : ℕ) → P.N j H ≡ W.force (W.load j H)
-  unfolding fractions P.given P.b P.G1 P.G2 P.L P.exact_N P.N W.deck W.fittings W.deck_live W.deck_load W.raised W.load W.force
+  unfolding fractions P.given P.b P.G1 P.G2 P.L P.exact_N P.N W.fittings W.deck_live W.load W.force
   N_same H = cases (P.double j) (λ e. rw e (up_is _ _ _ (omega arith))) (λ e. rw e (up_is _ _ _ (omega arith)))
 
   pub Nw_same : (H : ℕ) → P.Nw j H ≡ W.force_wind (W.load j H)
-  unfolding fractions P.given P.b P.G1 P.G2 P.L P.exact_Nw P.Nw W.deck W.fittings W.deck_live W.deck_load W.raised W.load W.force_wind
+  unfolding fractions P.given P.b P.G1 P.G2 P.L P.exact_Nw P.Nw W.fittings W.deck_live W.load W.force_wind
   Nw_same H = cases (P.double j) (λ e. rw e (up_is _ _ _ (omega arith))) (λ e. rw e (up_is _ _ _ (omega arith)))
 
   pub moment1_same : P.moment1 j ≡ W.transom_moment j
@@ -84,7 +84,7 @@ module _ (j : Job) where
   slip_same = up_is _ _ _ (omega arith)
 
   pub tie_force_same : P.tie_force j ≡ W.tie_force j (W.wk j)
-  unfolding fractions P.given P.tie_force W.face W.tie_force
+  unfolding fractions P.given P.tie_force W.tie_force
   tie_force_same = rw wk_same (up_is _ _ _ (omega arith))
 
   column_tenths_same : up (whole 10 ⊗ P.exact_Z j) ≡ W.column_tenths j
@@ -100,33 +100,33 @@ module _ (j : Job) where
   column_same = tenths_same (P.exact_Z j) exact_Z_pos column_tenths_same
 
   check1_same : P.check1 j ≡ W.check1 j
-  unfolding fractions ◌≼◌ P.given P.check1 W.check1
+  unfolding fractions ◌≼◌ P.given P.check1
   check1_same = rw moment1_same (same _ _ (omega tests))
 
   check2_same : P.check2 j ≡ W.check2 j
-  unfolding fractions ◌≼◌ P.given W.stiffness P.deflection2 P.check2 W.deflects W.transom_load W.check2
+  unfolding fractions ◌≼◌ P.given P.deflection2 P.check2 W.deflects W.transom_load
   check2_same =
       let short : (P.deflection2 j ≼ P.mm (P.lb j) ÷ 150) ≡ leb (15 * (W.transom_load j * j.lb)) (j.lb * (1536 * W.stiffness j.tube)) = same _ _ (omega tests) in
       let most : (P.deflection2 j ≼ whole 10) ≡ leb (W.transom_load j * j.lb) (10 * (1536 * W.stiffness j.tube)) = same _ _ (omega tests) in
       ap₂ ◌&&◌ short most
 
   check3_same : P.check3 j ≡ W.check3 j
-  unfolding fractions ◌≼◌ P.given P.check3 W.check3
+  unfolding fractions ◌≼◌ P.given P.check3
   check3_same = rw moment3_same (same _ _ (omega tests))
 
   check4_same : P.check4 j ≡ W.check4 j
-  unfolding fractions ◌≼◌ P.given W.stiffness P.Pg P.Pq P.deflection4 P.check4 W.deflects W.ledger_load W.check4
+  unfolding fractions ◌≼◌ P.given P.Pg P.Pq P.deflection4 P.check4 W.deflects W.ledger_load
   check4_same =
       let short : (P.deflection4 j ≼ P.mm (P.la j) ÷ 150) ≡ leb (15 * (W.ledger_load j * j.la)) (j.la * (4000000 * W.stiffness j.tube)) = same _ _ (omega tests) in
       let most : (P.deflection4 j ≼ whole 10) ≡ leb (W.ledger_load j * j.la) (10 * (4000000 * W.stiffness j.tube)) = same _ _ (omega tests) in
       ap₂ ◌&&◌ short most
 
   check5_same : P.check5 j ≡ W.check5 j
-  unfolding fractions ◌≼◌ P.given P.check5 W.check5
+  unfolding fractions ◌≼◌ P.given P.check5
   check5_same = rw slip_same (same _ _ (omega tests))
 
   check6_same : P.check6 j ≡ W.check6 j
-  unfolding fractions ◌≼◌ P.given P.slenderness P.check6 W.check6
+  unfolding fractions ◌≼◌ P.given P.slenderness P.check6
   check6_same = same _ _ (omega tests)
 
   pub check7_same : (s : List ℕ) (H : ℕ) → P.check7 j s H ≡ W.bears (W.column_of s j) (W.force (W.load j H))
@@ -138,14 +138,14 @@ module _ (j : Job) where
   check8_same s H = rw (Nw_same H, Mw_same) (bends_same (P.exact_Z j) exact_Z_pos column_tenths_same s j.tube (W.force_wind (W.load j H)) (W.mw j))
 
   pub not_due_same : P.not_due j ≡ W.not_due j
-  unfolding fractions ◌≼◌ P.given P.not_due W.face W.not_due
+  unfolding fractions ◌≼◌ P.given P.not_due
   not_due_same =
       let calm : (P.w0 j ≼ whole 350) ≡ leb j.wind 350 = same _ _ (omega tests) in
       let near : (P.t j ⊗ P.h j ⊗ (whole 3 ⊗ P.la j) ≼ whole 30) ≡ leb (W.face j.ties j.step j.la) 300000 = same _ _ (omega tests) in
       ap₂ ◌&&◌ calm (ap (λ b. P.is_open j && b) near)
 
   check9_same : P.check9 j ≡ W.check9 j (W.wk j)
-  unfolding fractions ◌≼◌ P.given P.check9 W.check9
+  unfolding fractions ◌≼◌ P.given P.check9
   check9_same = rw tie_force_same (same _ _ (omega tests))
 
   check10_same : P.check10 j ≡ W.base_bears (W.force (W.load j j.height))
@@ -161,11 +161,11 @@ module _ (j : Job) where
   verdicts_same s = rw (check1_same, check2_same, check3_same, check4_same, check5_same, check6_same, check7_same s j.height, check8_same s j.height, not_due_same, check9_same, check10_same, check11_same)
 
   sag2_same : up (whole 1000 ⊗ P.deflection2 j) ≡ W.transom_deflection j
-  unfolding fractions P.given W.stiffness P.deflection2 W.transom_load W.transom_deflection
+  unfolding fractions P.given P.deflection2 W.transom_load W.transom_deflection
   sag2_same = up_by 5000000000000 _ _ _ (omega arith)
 
   sag4_same : up (whole 1000 ⊗ P.deflection4 j) ≡ W.ledger_deflection j
-  unfolding fractions P.given W.stiffness P.Pg P.Pq P.deflection4 W.ledger_load W.ledger_deflection
+  unfolding fractions P.given P.Pg P.Pq P.deflection4 W.ledger_load W.ledger_deflection
   sag4_same = up_by 40000000000000000000 _ _ _ (omega arith)
 
   slenderness_same : up (P.slenderness j) ≡ W.slenderness j
@@ -173,7 +173,7 @@ module _ (j : Job) where
   slenderness_same = up_by 10000 _ _ _ (omega arith)
 
   pub figures_same : P.figures j ≡ W.figures j (W.wk j) (W.force (W.load j j.height)) (W.force_wind (W.load j j.height))
-  unfolding P.figures W.figures
+  unfolding P.figures
   figures_same = rw (moment1_same, sag2_same, moment3_same, sag4_same, slip_same, slenderness_same, N_same j.height, Nw_same j.height, tie_force_same)
 
   pub poles_same : (s : List ℕ) (H : ℕ) → P.poles j s H ≡ W.poles (W.column_of s j) (W.deck_load j) j.weight (W.mw j) (W.not_due j) H
@@ -185,7 +185,7 @@ module _ (j : Job) where
   stability_same s = greatest_top (P.poles j s) 6000 ∙ ap (λ (p : ℕ → Bool). from_count (top p 6001)) (fun_ext (poles_same s))
 
   permitted_same : (H : ℕ) → P.permitted j H ≡ W.permitted j.family H
-  unfolding P.permitted W.permitted
+  unfolding P.permitted
   permitted_same H = rw (permitted_at H)
     where
       permitted_at : (H : ℕ) → down (whole 100 ⊗ (hundredths H ⊘ (whole 1 ⊕ 0·001 ⊗ hundredths H))) ≡ 100000 * H / (100000 + H)

@@ -9,14 +9,15 @@ use native.Mathlib.Omega.{arith}
 use lib.Dec.{T, leb, leb→le, le→leb, lit<}
 use borrow.Author.Tests.{leb-true, leb-false, le-leb, lt-leb}
 use Rattle.basis.specs.Search.{top}
+use Rattle.basis.specs.Figure.{Is}
 use Rattle.basis.specs.Fraction.{ceil}
 use Rattle.basis.proofs.Order.{ceil_le}
+use Rattle.basis.proofs.Fits.{is_most}
 use Rattle.basis.proofs.Tests.{cases, same, leb_same, both_left, both_right, both_make, cond_below}
 use Rattle.basis.proofs.Searches.{top_is, top_le}
 use Rattle.section5.specs.Section5.{greatest}
 use Rattle.section5.specs.declared.Heights.TheVariants.{Both}
-use Rattle.calculation.specs.declared.loads.Load.{Load}
-use Rattle.calculation.specs.declared.columns.Column.{Column}
+use Rattle.calculation.specs.Parts.{Load, Column}
 use Rattle.calculation.specs.Whole.{raised, force, force_wind, bears, bends, poles, height_count, from_count, permitted, heights}
 use Rattle.calculation.specs.Division.{limit7, limit8, count_up_to, count7, count8}
 use Rattle.calculation.specs.Bounded.{Proper}
@@ -85,7 +86,6 @@ module _ (c : Column) (s : Proper c) (n : ℕ) where
 -- ---- the heights below a limit
 
 count_up_to_iff : (c k b H : ℕ) → 0 < k → H < 6001 → (c + k * H ≤ b) ↔ (H < count_up_to c k b)
-unfolding count_up_to
 count_up_to_iff c k b H p l = cases (leb c b) (λ t. rw t (inside (leb-true c b t))) (λ t. rw t (λ h. absurd (omega (arith, leb-false c b t)), λ h. absurd (omega arith)))
   where
     inside : c ≤ b → (c + k * H ≤ b) ↔ (H < min 6001 ((b - c) / k + 1))
@@ -96,12 +96,11 @@ count_up_to_iff c k b H p l = cases (leb c b) (λ t. rw t (inside (leb-true c b 
         )
 
 count_up_to_most : (c k b : ℕ) → count_up_to c k b ≤ 6001
-unfolding count_up_to
 count_up_to_most c k b = cond_below (leb c b) (min-le_left 6001 ((b - c) / k + 1)) zero-le
 
 module _ (c : Column) (s : Proper c) (l : Load) (w : ℕ) (p : 0 < w) (m : ℕ) (H : ℕ) (h : H < 6001) where
   count7_iff : T (bears c (force (raised l w H))) ↔ (H < count7 c l w)
-  unfolding count7 force raised
+  unfolding force
   count7_iff =
       let n : ℕ = 12 * (200 * w * H + l.dead) + 14 * l.live in
       let b : ℕ = limit7 c in
@@ -112,7 +111,7 @@ module _ (c : Column) (s : Proper c) (l : Load) (w : ℕ) (p : 0 < w) (m : ℕ) 
       )
 
   count8_iff : T (bends c (force_wind (raised l w H)) m) ↔ (H < count8 c l w m)
-  unfolding count8 force_wind raised
+  unfolding force_wind
   count8_iff =
       let n : ℕ = 120 * (200 * w * H + l.dead) + 119 * l.live in
       let b : ℕ = limit8 c m in
@@ -148,12 +147,22 @@ pub height_count_is : (c : Column) → Proper c → (l : Load) (w : ℕ) → 0 <
 unfolding height_count
 height_count_is c s l w p m exempt =
     top_is (poles c l w m exempt) 6001 (min (count7 c l w) (cond exempt 6001 (count8 c l w m)))
-    (le_trans (min-le_left (count7 c l w) (cond exempt 6001 (count8 c l w m))) (unfold count7 in count_up_to_most _ _ _))
+    (le_trans (min-le_left (count7 c l w) (cond exempt 6001 (count8 c l w m))) (count_up_to_most _ _ _))
     (λ H h. poles_iff c s l w p m H h exempt)
 
 pub height_count_most : (c : Column) (l : Load) (w m : ℕ) (exempt : Bool) → height_count c l w m exempt ≤ 6001
 unfolding height_count
 height_count_most c l w m exempt = top_le (poles c l w m exempt) 6001
+
+-- the same by its two cases, check 8 due or not, as a figure
+pub height_count_calm : (c : Column) → Proper c → (l : Load) (w : ℕ) → 0 < w → (m : ℕ) {exempt : Bool} {r : ℕ} → exempt ≡ true → r ≡ count7 c l w → Is r (height_count c l w m exempt) 6001
+height_count_calm c s l w p m e f =
+    let h = height_count_is c s l w p m true in
+    let u : count7 c l w ≤ 6001 = count_up_to_most _ _ _ in
+    is_most 6001 tt (height_count_most c l w m _) (rw e (omega arith))
+
+pub height_count_due : (c : Column) → Proper c → (l : Load) (w : ℕ) → 0 < w → (m : ℕ) {exempt : Bool} {r : ℕ} → exempt ≡ false → r ≡ min (count7 c l w) (count8 c l w m) → Is r (height_count c l w m exempt) 6001
+height_count_due c s l w p m e f = is_most 6001 tt (height_count_most c l w m _) (rw e (f ∙ sym (height_count_is c s l w p m false)))
 
 -- a count above 0 has heights
 pub heights_at : (family n : ℕ) → (n ≡ 0 → ⊥) → heights family n ≡ Both (n - 1) (permitted family (n - 1))

@@ -1,3 +1,4 @@
+pub mod Parts
 pub mod Whole
 pub mod Division
 pub mod Bounded

@@ -1,18 +1,15 @@
 -- The whole-number forms that the code works out, each proved equal to that of Section5 in proofs/Same.antt. A figure's unit stands in its comment; lengths are in cm.
 -- Assumes nothing.
-use Rattle.std.specs.Prelude.{ℕ, zero, suc, ◌+◌, ◌*◌, ◌/◌, min, Bool, ◌&&◌, ◌||◌, cond, List, [], ◌∷◌, leb, ltb, eqb}
+use Rattle.std.specs.Prelude.{ℕ, zero, suc, ◌+◌, ◌*◌, ◌/◌, min, Bool, ◌&&◌, ◌||◌, cond, List, [], ◌∷◌, leb, ltb, eqb, Option, None, Some}
 use Rattle.basis.specs.Search.{top}
 use Rattle.basis.specs.Fraction.{ceil}
 use Rattle.job.specs.declared.Job.{Job}
 use Rattle.sheet.specs.StabilityFactor.{over, under}
-use Rattle.section5.specs.declared.Height.{Height}
-use Rattle.section5.specs.declared.Height.TheVariants.{None, At}
 use Rattle.section5.specs.declared.Heights.{Heights}
 use Rattle.section5.specs.declared.Heights.TheVariants.{Nowhere, Both}
 use Rattle.section5.specs.declared.Judgement.{Judgement}
 use Rattle.section5.specs.Section5.{verdict, length_factor}
-use Rattle.calculation.specs.declared.loads.Load.{Load}
-use Rattle.calculation.specs.declared.columns.Column.{Column}
+use Rattle.calculation.specs.Parts.{Load, Column, Effects}
 
 -- ---- constants: by tube (2), boards (8), soil (23), family (1), enclosure (17) and wall (19)
 
@@ -29,7 +26,7 @@ abbrev pub radius : ℕ → ℕ
 radius tube = cond (eqb tube 1) 158 170
 
 -- E I, N·mm²
-unfoldable pub stiffness : ℕ → ℕ
+abbrev pub stiffness : ℕ → ℕ
 stiffness tube = 206000 * cond (eqb tube 1) 121900 130800
 
 -- g, N/m²
@@ -67,7 +64,7 @@ shape_unit enclosure wall = cond (eqb enclosure 1) 100 (12 * cond (eqb wall 1) 1
 -- ---- wind
 
 -- shape, 1/100,000
-unfoldable pub shape : ℕ → ℕ → ℕ → ℕ
+abbrev pub shape : ℕ → ℕ → ℕ → ℕ
 shape enclosure wall shield = shape_unit enclosure wall * shield
 
 -- N/m², up, of height factor (thousandths), shape and basic wind
@@ -87,7 +84,7 @@ mw j = wind_moment (wk j) j.la j.step
 -- ---- loads: their parts in 1/20,000 N
 
 -- the deck's width, cm
-unfoldable pub deck : ℕ → ℕ → ℕ
+abbrev pub deck : ℕ → ℕ → ℕ
 deck family lb = lb + overhang family
 
 -- G2 and L
@@ -99,11 +96,11 @@ unfoldable pub deck_live : Job → ℕ
 deck_live j = j.total * j.la * deck j.family j.lb
 
 -- what a job's pole carries beside the structure
-unfoldable pub deck_load : Job → Load
+abbrev pub deck_load : Job → Load
 deck_load j = record { dead = fittings j; live = deck_live j }
 
 -- a load with H cm more of a structure that weighs so many N/m
-unfoldable pub raised : Load → ℕ → ℕ → Load
+abbrev pub raised : Load → ℕ → ℕ → Load
 raised l weight H = record { dead = 200 * weight * H + l.dead; live = l.live }
 
 unfoldable pub load : Job → ℕ → Load
@@ -131,7 +128,7 @@ unfoldable pub column_slenderness : Job → ℕ
 column_slenderness j = rounded_tenths (column_tenths j)
 
 -- of a tube under a sheet, at a slenderness in tenths
-unfoldable pub column_at : List ℕ → ℕ → ℕ → Column
+abbrev pub column_at : List ℕ → ℕ → ℕ → Column
 column_at s tube z = record { over = over s z; under = under z; area = area tube; modulus = modulus tube }
 
 unfoldable pub column_of : List ℕ → Job → Column
@@ -174,7 +171,7 @@ slip j = ceil ((2580 * board j.boards + 3220 * j.q) * j.la * j.lb) 40000000
 -- ---- the tie
 
 -- the face that one tie holds, t × h × 3 la, cm²
-unfoldable pub face : ℕ → ℕ → ℕ → ℕ
+abbrev pub face : ℕ → ℕ → ℕ → ℕ
 face ties step la = ties * step * (3 * la)
 
 -- N, up, of wk
@@ -187,22 +184,22 @@ tie_force j wk = ceil (14 * wk * face j.ties j.step j.la + 100000 * tie_base j.f
 unfoldable pub deflects : ℕ → ℕ → ℕ → Bool
 deflects load span scale = leb (15 * (load * span)) (span * scale) && leb (load * span) (10 * scale)
 
-unfoldable pub check1 : Job → Bool
+abbrev pub check1 : Job → Bool
 check1 j = leb (transom_moment j) (205 * modulus j.tube)
 
-unfoldable pub check2 : Job → Bool
+abbrev pub check2 : Job → Bool
 check2 j = deflects (transom_load j) j.lb (1536 * stiffness j.tube)
 
-unfoldable pub check3 : Job → Bool
+abbrev pub check3 : Job → Bool
 check3 j = leb (ledger_moment j) (205 * modulus j.tube)
 
-unfoldable pub check4 : Job → Bool
+abbrev pub check4 : Job → Bool
 check4 j = deflects (ledger_load j) j.la (4000000 * stiffness j.tube)
 
-unfoldable pub check5 : Job → Bool
+abbrev pub check5 : Job → Bool
 check5 j = leb (slip j) 8000
 
-unfoldable pub check6 : Job → Bool
+abbrev pub check6 : Job → Bool
 check6 j = leb (length_factor j.family j.lb j.ties * j.step) (slender_limit j.family * radius j.tube)
 
 -- 7: n ≤ φ A f, times the denominator of φ
@@ -214,22 +211,22 @@ unfoldable pub bends : Column → ℕ → ℕ → Bool
 bends c n m = leb (n * c.under * c.modulus + m * c.over * c.area) (205 * c.over * c.area * c.modulus)
 
 -- check 8 is not due in little wind, on an open face, with ties close together (4.3.2)
-unfoldable pub not_due : Job → Bool
+abbrev pub not_due : Job → Bool
 not_due j = leb j.wind 350 && (eqb j.enclosure 1 && leb (face j.ties j.step j.la) 300000)
 
-unfoldable pub check9 : Job → ℕ → Bool
+abbrev pub check9 : Job → ℕ → Bool
 check9 j wk = leb (tie_force j wk) j.capacity
 
 -- 10
-unfoldable pub base_bears : ℕ → Bool
+abbrev pub base_bears : ℕ → Bool
 base_bears n = leb n 40000
 
 -- what the ground bears, hundredths of a newton
-unfoldable pub ground_capacity : ℕ → ℕ → ℕ → ℕ
+abbrev pub ground_capacity : ℕ → ℕ → ℕ → ℕ
 ground_capacity soil strength pad = soil_factor soil * strength * pad
 
 -- 11
-unfoldable pub ground_bears : ℕ → ℕ → ℕ → ℕ → Bool
+abbrev pub ground_bears : ℕ → ℕ → ℕ → ℕ → Bool
 ground_bears soil strength pad n = leb (100 * n) (ground_capacity soil strength pad)
 
 -- the row of eleven, of the column, wk, Mw, N, Nw and whether 8 is not due: 0 not due, 1 passes, 2 fails
@@ -249,7 +246,7 @@ verdicts c j wk mw n nw exempt =
     ∷ []
 
 -- of wk, N and Nw
-unfoldable pub figures : Job → ℕ → ℕ → ℕ → List ℕ
+abbrev pub figures : Job → ℕ → ℕ → ℕ → List ℕ
 figures j wk n nw =
     transom_moment j
     ∷ transom_deflection j
@@ -275,12 +272,12 @@ unfoldable pub height_count : Column → Load → ℕ → ℕ → Bool → ℕ
 height_count c l weight m exempt = top (poles c l weight m exempt) 6001
 
 -- the height of a count of heights from 0 up
-abbrev pub from_count : ℕ → Height
+abbrev pub from_count : ℕ → Option ℕ
 from_count zero = None
-from_count (suc H) = At H
+from_count (suc H) = Some H
 
 -- the permitted height of a family and a stability height, cm
-unfoldable pub permitted : ℕ → ℕ → ℕ
+abbrev pub permitted : ℕ → ℕ → ℕ
 permitted family H = min (cond (ltb H 2600) H (100000 * H / (100000 + H))) (height_limit family)
 
 -- both heights of a count of heights
@@ -289,6 +286,10 @@ heights family zero = Nowhere
 heights family (suc H) = Both H (permitted family H)
 
 -- ---- what a report tells of a job
+
+-- what wind and load do to the pole, the structure up to the job's own height
+unfoldable pub effects : Job → Effects
+effects j = record { wk = wk j; mw = mw j; n = force (load j j.height); nw = force_wind (load j j.height); not_due = not_due j }
 
 unfoldable pub count : List ℕ → Job → ℕ
 count s j = height_count (column_of s j) (deck_load j) j.weight (mw j) (not_due j)

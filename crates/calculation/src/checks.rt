@@ -1,19 +1,19 @@
 // The eleven checks, each as a verdict: 0 not due, 1 passes, 2 fails.
 ghost use Rattle.std.specs.Prelude.{cond, ◌≡◌, ◌≤◌, ◌<◌};
-ghost use Rattle.job.specs.Bounds.{Bounds};
+ghost use Rattle.kinds.specs.Kinds.{soil_number};
 ghost use Rattle.section5.specs.Section5.{verdict};
 ghost use Rattle.calculation.specs.Whole.{deflects, check1, check2, check3, check4, check5, check6, check9, not_due, base_bears, ground_bears, verdicts};
-ghost use Rattle.calculation.specs.Bounded.{Proper};
 
 use crate::columns::{Column, bears_of, bends_of};
 use crate::constants::{
     factor_of, modulus_of, radius_of, slender_limit, soil_factor, stiffness_of,
 };
+use crate::effects::Effects;
 use crate::figures::{
     face_of, ledger_load, ledger_moment, slip_of, tie_force, transom_load, transom_moment,
 };
-use basis::both_of;
-use job::Job;
+use job::standing::StandingJob;
+use kinds::{Enclosure, Soil};
 use section5::CHECKS;
 
 // A verdict: 1 passes, 2 fails.
@@ -35,74 +35,63 @@ fn deflects_at(load: u64, span: u64, scale: u64) -> bool
     requires { (load ≤ 21000000000000000) × (0 < span) × (span ≤ 200) × (scale ≤ 107779200000000000) }
     ensures { result ≡ deflects load span scale }
 {
-    both_of(15 * load <= scale, load * span <= 10 * scale)
+    15 * load <= scale && load * span <= 10 * scale
 }
 
-fn check1_of(j: Job) -> u8
-    requires { Bounds j }
-    ensures { result ≡ verdict (check1 j) }
+fn check1_of(j: &StandingJob) -> u8
+    ensures { result ≡ verdict (check1 j.now) }
 {
     verdict_of(transom_moment(j) <= 205 * modulus_of(j.tube))
 }
 
-fn check2_of(j: Job) -> u8
-    requires { Bounds j }
-    ensures { result ≡ verdict (check2 j) }
+fn check2_of(j: &StandingJob) -> u8
+    ensures { result ≡ verdict (check2 j.now) }
 {
-    let lb = j.lb as u64;
+    let lb = u64::from(j.lb);
     verdict_of(deflects_at(transom_load(j), lb, 1536 * stiffness_of(j.tube)))
 }
 
-fn check3_of(j: Job) -> u8
-    requires { Bounds j }
-    ensures { result ≡ verdict (check3 j) }
+fn check3_of(j: &StandingJob) -> u8
+    ensures { result ≡ verdict (check3 j.now) }
 {
     verdict_of(ledger_moment(j) <= 205 * modulus_of(j.tube))
 }
 
-fn check4_of(j: Job) -> u8
-    requires { Bounds j }
-    ensures { result ≡ verdict (check4 j) }
+fn check4_of(j: &StandingJob) -> u8
+    ensures { result ≡ verdict (check4 j.now) }
 {
-    let la = j.la as u64;
+    let la = u64::from(j.la);
     verdict_of(deflects_at(ledger_load(j), la, 4000000 * stiffness_of(j.tube)))
 }
 
-fn check5_of(j: Job) -> u8
-    requires { Bounds j }
-    ensures { result ≡ verdict (check5 j) }
+fn check5_of(j: &StandingJob) -> u8
+    ensures { result ≡ verdict (check5 j.now) }
 {
     verdict_of(slip_of(j) <= 8000)
 }
 
-fn check6_of(j: Job) -> u8
-    requires { Bounds j }
-    ensures { result ≡ verdict (check6 j) }
+fn check6_of(j: &StandingJob) -> u8
+    ensures { result ≡ verdict (check6 j.now) }
 {
-    let step = j.step as u64;
-    verdict_of(
-        factor_of(j.family, j.lb, j.ties) * step <= slender_limit(j.family) * radius_of(j.tube),
-    )
+    let step = u64::from(j.step);
+    let length = factor_of(j.family, j.lb, j.ties) * step;
+    verdict_of(length <= slender_limit(j.family) * radius_of(j.tube))
 }
 
 // Check 8 is not due (4.3.2).
-// requires: judge shows the bounds by examining the job.
-pub fn not_due_of(j: Job) -> bool
-    requires { Bounds j }
-    ensures { result ≡ not_due j }
+pub fn not_due_of(j: &StandingJob) -> bool
+    ensures { result ≡ not_due j.now }
 {
-    both_of(
-        j.wind <= 350,
-        both_of(j.enclosure == 1, face_of(j.ties, j.step, j.la) <= 300000),
-    )
+    match j.enclosure {
+        Enclosure::Open => j.wind <= 350 && face_of(j.ties, j.step, j.la) <= 300000,
+        Enclosure::HalfClosed | Enclosure::FullyClosed => false,
+    }
 }
 
-fn check9_of(j: Job, w: u64) -> u8
-    requires { Bounds j × (w ≤ 17472) }
-    ensures { result ≡ verdict (check9 j w) }
+fn check9_of(j: &StandingJob, e: Effects) -> u8
+    ensures { result ≡ verdict (check9 j.now e.wk) }
 {
-    let capacity = j.capacity as u64;
-    verdict_of(tie_force(j, w) <= capacity)
+    verdict_of(tie_force(j, e) <= u64::from(j.capacity))
 }
 
 // Check 10 of a force.
@@ -114,21 +103,24 @@ pub fn base_bears(n: u64) -> bool
 
 // Check 11 of a force.
 // requires: judge and formwork show the bounds by examining the job.
-pub fn ground_bears(soil: u32, strength: u32, pad: u32, n: u64) -> bool
+pub fn ground_bears(soil: Soil, strength: u32, pad: u32, n: u64) -> bool
     requires { (strength ≤ 2000) × (pad ≤ 10000) × (n ≤ 1543200) }
-    ensures { result ≡ ground_bears soil strength pad n }
+    ensures { result ≡ ground_bears (soil_number soil) strength pad n }
 {
-    let strength = strength as u64;
-    let pad = pad as u64;
-    100 * n <= soil_factor(soil) * strength * pad
+    100 * n <= soil_factor(soil) * u64::from(strength) * u64::from(pad)
 }
 
-// The row of eleven, from the column, wk, Mw, N, Nw and whether check 8 is due.
-// requires: judge shows the bounds; column_of that the column is proper.
-pub fn verdicts_of(c: Column, j: Job, w: u64, m: u64, n: u64, nw: u64, exempt: bool) -> [u8; CHECKS]
-    requires { Proper c × Bounds j × (w ≤ 17472) × (n ≤ 1543200) }
-    ensures { result ≡ verdicts c j w m n nw exempt }
+fn check11_of(j: &StandingJob, e: Effects) -> u8
+    ensures { result ≡ verdict (ground_bears j.now.soil j.now.strength j.now.pad e.n) }
 {
+    verdict_of(ground_bears(j.soil, j.strength, j.pad, e.n))
+}
+
+// The row of eleven numbers, the form that the paper requires.
+pub fn verdicts_of(c: Column, j: &StandingJob, e: Effects) -> [u8; CHECKS]
+    ensures { result ≡ verdicts c j.now e.wk e.mw e.n e.nw e.not_due }
+{
+    let n = e.n;
     let v1 = check1_of(j);
     let v2 = check2_of(j);
     let v3 = check3_of(j);
@@ -136,9 +128,9 @@ pub fn verdicts_of(c: Column, j: Job, w: u64, m: u64, n: u64, nw: u64, exempt: b
     let v5 = check5_of(j);
     let v6 = check6_of(j);
     let v7 = verdict_of(bears_of(c, n));
-    let v8 = due_of(exempt, verdict_of(bends_of(c, nw, m)));
-    let v9 = check9_of(j, w);
+    let v8 = due_of(e.not_due, verdict_of(bends_of(c, e.nw, e.mw)));
+    let v9 = check9_of(j, e);
     let v10 = verdict_of(base_bears(n));
-    let v11 = verdict_of(ground_bears(j.soil, j.strength, j.pad, n));
+    let v11 = check11_of(j, e);
     [v1, v2, v3, v4, v5, v6, v7, v8, v9, v10, v11]
 }

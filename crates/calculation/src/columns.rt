@@ -1,13 +1,15 @@
 // What a pole bears with: its column, and checks 7 and 8 of a force.
 ghost use Rattle.std.specs.Prelude.{◌≡◌, ◌*◌, ◌≤◌};
 ghost use Rattle.basis.specs.Figure.{Is};
-ghost use Rattle.sheet.specs.Rows.{Stands};
+ghost use Rattle.kinds.specs.Kinds.{tube_number};
 ghost use Rattle.calculation.specs.Whole.{column_at, bears, bends};
 ghost use Rattle.calculation.specs.Division.{limit7, limit8};
-ghost use Rattle.calculation.specs.Bounded.{Proper, IsColumn};
+ghost use Rattle.calculation.specs.Bounded.{Proper};
 
 use crate::constants::{area_of, modulus_of};
-use sheet::stability_factor;
+use kinds::Tube;
+use sheet::standing::StandingSheet;
+use std::marker::Model;
 
 // The stability factor, over / under, and the tube's area and modulus.
 #[derive(Clone, Copy)]
@@ -18,13 +20,26 @@ pub struct Column {
     pub modulus: u64,
 }
 
+impl Model for Column {
+    ghost use Rattle.calculation.specs.Parts.{Column};
+    ghost use Rattle.calculation.specs.Bounded.{Proper};
+
+    ghost Value = { Column };
+
+    ghost view = { λ c. record { over = c.over; under = c.under; area = c.area; modulus = c.modulus } };
+
+    ghost invariant = { λ c. Proper record { over = c.over; under = c.under; area = c.area; modulus = c.modulus } };
+
+    ghost inverse = { λ c. record { over = c.over; under = c.under; area = c.area; modulus = c.modulus } };
+}
+
 // The column of a tube under a sheet, at a slenderness of z tenths.
-// requires: judge and formwork show that the sheet stands and that no accepted job is more slender.
-pub fn column_of(sheet: &[u16], tube: u32, z: u64) -> Column
-    requires { Stands sheet.now × (z ≤ 2930) }
-    ensures { IsColumn result (column_at sheet.now tube z) }
+// requires: judge and formwork show that no accepted job is more slender.
+pub fn column_of(sheet: &StandingSheet<'_>, tube: Tube, z: u64) -> Column
+    requires { z ≤ 2930 }
+    ensures { result ≡ column_at sheet.now (tube_number tube) z }
 {
-    let phi = stability_factor(sheet, z);
+    let phi = sheet.stability_factor(z);
     Column {
         over: phi.over,
         under: phi.under,
@@ -35,38 +50,32 @@ pub fn column_of(sheet: &[u16], tube: u32, z: u64) -> Column
 
 // The greatest force that check 7 passes.
 pub(crate) fn limit7_of(c: Column) -> u64
-    requires { Proper c }
-    ensures { Is result (limit7 c) 100245 }
+    ensures figure { Is result (limit7 c) 100245 }
+
+    // to callers that read no part of it
+    ensures proper { Proper c }
 {
     c.over * (205 * c.area) / c.under
 }
 
 // The greatest force that check 8 passes beside a moment.
 pub(crate) fn limit8_of(c: Column, m: u64) -> u64
-    requires { Proper c × (m ≤ 205 * c.modulus) }
+    requires { m ≤ 205 * c.modulus }
     ensures { Is result (limit8 c m) 100245 }
 {
     c.over * c.area * (205 * c.modulus - m) / (c.under * c.modulus)
 }
 
 // Check 7 of a force.
-// requires: column_of shows it.
 pub fn bears_of(c: Column, n: u64) -> bool
-    requires { Proper c }
     ensures { result ≡ bears c n }
 {
     n <= limit7_of(c)
 }
 
 // Check 8 of a force beside a moment.
-// requires: column_of shows it.
 pub fn bends_of(c: Column, n: u64, m: u64) -> bool
-    requires { Proper c }
     ensures { result ≡ bends c n m }
 {
-    if m <= 205 * c.modulus {
-        n <= limit8_of(c, m)
-    } else {
-        false
-    }
+    m <= 205 * c.modulus && n <= limit8_of(c, m)
 }

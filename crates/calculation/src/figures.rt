@@ -1,22 +1,22 @@
 // The figures of a job, in whole numbers; each fits 64 bits with room to spare.
 ghost use Rattle.std.specs.Prelude.{◌≡◌, ◌≤◌};
 ghost use Rattle.basis.specs.Figure.{Is};
-ghost use Rattle.job.specs.Bounds.{Bounds};
+ghost use Rattle.kinds.specs.Kinds.{enclosure_number, wall_number};
 ghost use Rattle.calculation.specs.Whole.{shape, wind_pressure, wind_moment, figures, rounded_tenths, column_slenderness, slenderness, transom_moment, transom_load, transom_deflection, ledger_moment, ledger_load, ledger_deflection, slip, face, tie_force};
 
 use crate::constants::{board_of, factor_of, radius_of, shape_unit, stiffness_of, tie_base};
-use basis::ceil_div;
-use job::Job;
+use crate::effects::Effects;
+use job::standing::StandingJob;
+use kinds::{Enclosure, Wall};
 use section5::CHECKS;
 
 // The shape factor, 1/100,000.
 // requires: judge shows the bound by examining the job.
-pub fn shape_of(enclosure: u32, wall: u32, shield: u32) -> u64
+pub fn shape_of(enclosure: Enclosure, wall: Wall, shield: u32) -> u64
     requires { shield ≤ 2000 }
-    ensures { Is result (shape enclosure wall shield) 312000 }
+    ensures { Is result (shape (enclosure_number enclosure) (wall_number wall) shield) 312000 }
 {
-    let shield = shield as u64;
-    shape_unit(enclosure, wall) * shield
+    shape_unit(enclosure, wall) * u64::from(shield)
 }
 
 // wk, N/m², of height factor, shape and basic wind.
@@ -25,9 +25,9 @@ pub fn wind_pressure(exposure: u32, shape: u64, wind: u32) -> u64
     requires { (exposure ≤ 4000) × (shape ≤ 312000) × (wind ≤ 2000) }
     ensures { Is result (wind_pressure exposure shape wind) 17472 }
 {
-    let exposure = exposure as u64;
-    let wind = wind as u64;
-    ceil_div(7 * exposure * shape * wind, 1000000000)
+    let exposure = u64::from(exposure);
+    let wind = u64::from(wind);
+    (7 * exposure * shape * wind).div_ceil(1000000000)
 }
 
 // Mw, N·mm, of wk, bay and step.
@@ -36,9 +36,9 @@ pub fn wind_moment(w: u64, la: u32, step: u32) -> u64
     requires { (w ≤ 17472) × (la ≤ 200) × (step ≤ 200) }
     ensures { Is result (wind_moment w la step) 17000000 }
 {
-    let la = la as u64;
-    let step = step as u64;
-    ceil_div(119 * w * la * (step * step), 1000000)
+    let la = u64::from(la);
+    let step = u64::from(step);
+    (119 * w * la * (step * step)).div_ceil(1000000)
 }
 
 // A slenderness in tenths, above 250.0 up to a whole number.
@@ -47,101 +47,88 @@ pub fn rounded_tenths(t: u64) -> u64
     requires { t ≤ 2930 }
     ensures { Is result (rounded_tenths t) 2930 }
 {
-    if t <= 2500 { t } else { 10 * ceil_div(t, 10) }
+    if t <= 2500 { t } else { 10 * t.div_ceil(10) }
 }
 
 // Z, in tenths.
-// requires: judge shows the bounds by examining the job.
-pub fn column_slenderness(j: Job) -> u64
-    requires { Bounds j }
-    ensures { Is result (column_slenderness j) 2930 }
+pub fn column_slenderness(j: &StandingJob) -> u64
+    ensures { Is result (column_slenderness j.now) 2930 }
 {
-    let step = j.step as u64;
-    rounded_tenths(ceil_div(
-        1155 * factor_of(j.family, j.lb, j.ties) * step,
+    let step = u64::from(j.step);
+    let tenths = (1155 * factor_of(j.family, j.lb, j.ties) * step).div_ceil(
         100 * radius_of(j.tube),
-    ))
+    );
+    rounded_tenths(tenths)
 }
 
 // The slenderness of check 6, up.
-fn slenderness_of(j: Job) -> u64
-    requires { Bounds j }
-    ensures { result ≡ slenderness j }
+fn slenderness_of(j: &StandingJob) -> u64
+    ensures { result ≡ slenderness j.now }
 {
-    let step = j.step as u64;
-    ceil_div(factor_of(j.family, j.lb, j.ties) * step, radius_of(j.tube))
+    let step = u64::from(j.step);
+    (factor_of(j.family, j.lb, j.ties) * step).div_ceil(radius_of(j.tube))
 }
 
-pub(crate) fn transom_moment(j: Job) -> u64
-    requires { Bounds j }
-    ensures { Is result (transom_moment j) 4400000 }
+pub(crate) fn transom_moment(j: &StandingJob) -> u64
+    ensures { Is result (transom_moment j.now) 4400000 }
 {
-    let lb = j.lb as u64;
-    let q = j.q as u64;
-    let la = j.la as u64;
-    ceil_div((12 * board_of(j.boards) + 14 * q) * la * (lb * lb), 160000)
+    let lb = u64::from(j.lb);
+    let q = u64::from(j.q);
+    let la = u64::from(j.la);
+    ((12 * board_of(j.boards) + 14 * q) * la * (lb * lb)).div_ceil(160000)
 }
 
-pub(crate) fn transom_load(j: Job) -> u64
-    requires { Bounds j }
-    ensures { Is result (transom_load j) 8000000000000 }
+pub(crate) fn transom_load(j: &StandingJob) -> u64
+    ensures { Is result (transom_load j.now) 8000000000000 }
 {
-    let lb = j.lb as u64;
-    let q = j.q as u64;
-    let la = j.la as u64;
+    let lb = u64::from(j.lb);
+    let q = u64::from(j.q);
+    let la = u64::from(j.la);
     (board_of(j.boards) + q) * la * (lb * lb * lb)
 }
 
 // The transom's deflection, µm.
-fn transom_deflection(j: Job) -> u64
-    requires { Bounds j }
-    ensures { result ≡ transom_deflection j }
+fn transom_deflection(j: &StandingJob) -> u64
+    ensures { result ≡ transom_deflection j.now }
 {
-    let lb = j.lb as u64;
-    ceil_div(1000 * (transom_load(j) * lb), 1536 * stiffness_of(j.tube))
+    let lb = u64::from(j.lb);
+    (1000 * (transom_load(j) * lb)).div_ceil(1536 * stiffness_of(j.tube))
 }
 
-pub(crate) fn ledger_moment(j: Job) -> u64
-    requires { Bounds j }
-    ensures { Is result (ledger_moment j) 5000000 }
+pub(crate) fn ledger_moment(j: &StandingJob) -> u64
+    ensures { Is result (ledger_moment j.now) 5000000 }
 {
-    let la = j.la as u64;
-    let q = j.q as u64;
-    let lb = j.lb as u64;
-    ceil_div(
-        (2100 * board_of(j.boards) + 2982 * q) * (la * la) * lb,
-        40000000,
-    )
+    let la = u64::from(j.la);
+    let q = u64::from(j.q);
+    let lb = u64::from(j.lb);
+    ((2100 * board_of(j.boards) + 2982 * q) * (la * la) * lb).div_ceil(40000000)
 }
 
-pub(crate) fn ledger_load(j: Job) -> u64
-    requires { Bounds j }
-    ensures { Is result (ledger_load j) 21000000000000000 }
+pub(crate) fn ledger_load(j: &StandingJob) -> u64
+    ensures { Is result (ledger_load j.now) 21000000000000000 }
 {
-    let la = j.la as u64;
-    let q = j.q as u64;
-    let lb = j.lb as u64;
+    let la = u64::from(j.la);
+    let q = u64::from(j.q);
+    let lb = u64::from(j.lb);
     (1146 * board_of(j.boards) + 1615 * q) * (la * la * la) * lb
 }
 
 // The ledger's deflection, µm.
-fn ledger_deflection(j: Job) -> u64
-    requires { Bounds j }
-    ensures { result ≡ ledger_deflection j }
+fn ledger_deflection(j: &StandingJob) -> u64
+    ensures { result ≡ ledger_deflection j.now }
 {
-    let la = j.la as u64;
-    ceil_div(ledger_load(j) * la, 4000 * stiffness_of(j.tube))
+    let la = u64::from(j.la);
+    (ledger_load(j) * la).div_ceil(4000 * stiffness_of(j.tube))
 }
 
 // N.
-pub(crate) fn slip_of(j: Job) -> u64
-    requires { Bounds j }
-    ensures { Is result (slip j) 26000 }
+pub(crate) fn slip_of(j: &StandingJob) -> u64
+    ensures { Is result (slip j.now) 26000 }
 {
-    let q = j.q as u64;
-    let la = j.la as u64;
-    let lb = j.lb as u64;
-    ceil_div((2580 * board_of(j.boards) + 3220 * q) * la * lb, 40000000)
+    let q = u64::from(j.q);
+    let la = u64::from(j.la);
+    let lb = u64::from(j.lb);
+    ((2580 * board_of(j.boards) + 3220 * q) * la * lb).div_ceil(40000000)
 }
 
 // The face that one tie holds, cm².
@@ -149,28 +136,20 @@ pub(crate) fn face_of(ties: u32, step: u32, la: u32) -> u64
     requires { (ties ≤ 3) × (step ≤ 200) × (la ≤ 200) }
     ensures { Is result (face ties step la) 360000 }
 {
-    let ties = ties as u64;
-    let step = step as u64;
-    let la = la as u64;
-    ties * step * (3 * la)
+    u64::from(ties) * u64::from(step) * (3 * u64::from(la))
 }
 
 // N.
-pub(crate) fn tie_force(j: Job, w: u64) -> u64
-    requires { Bounds j × (w ≤ 17472) }
-    ensures { Is result (tie_force j w) 900000 }
+pub(crate) fn tie_force(j: &StandingJob, e: Effects) -> u64
+    ensures { Is result (tie_force j.now e.wk) 900000 }
 {
-    ceil_div(
-        14 * w * face_of(j.ties, j.step, j.la) + 100000 * tie_base(j.family),
-        100000,
-    )
+    let face = face_of(j.ties, j.step, j.la);
+    (14 * e.wk * face + 100000 * tie_base(j.family)).div_ceil(100000)
 }
 
-// The figure of each check, from wk, N and Nw.
-// requires: judge shows the bounds.
-pub fn figures_of(j: Job, w: u64, n: u64, nw: u64) -> [u64; CHECKS]
-    requires { Bounds j × (w ≤ 17472) }
-    ensures { result ≡ figures j w n nw }
+// The figure of each check.
+pub fn figures_of(j: &StandingJob, e: Effects) -> [u64; CHECKS]
+    ensures { result ≡ figures j.now e.wk e.n e.nw }
 {
     [
         transom_moment(j),
@@ -179,10 +158,10 @@ pub fn figures_of(j: Job, w: u64, n: u64, nw: u64) -> [u64; CHECKS]
         ledger_deflection(j),
         slip_of(j),
         slenderness_of(j),
-        n,
-        nw,
-        tie_force(j, w),
-        n,
-        n,
+        e.n,
+        e.nw,
+        tie_force(j, e),
+        e.n,
+        e.n,
     ]
 }

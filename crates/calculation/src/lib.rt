@@ -4,6 +4,7 @@
 pub mod checks;
 pub mod columns;
 pub mod constants;
+pub mod effects;
 pub mod figures;
 pub mod heights;
 pub mod loads;

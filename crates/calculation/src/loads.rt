@@ -1,59 +1,66 @@
 // What a pole carries, and its force.
-ghost use Rattle.basis.specs.Figure.{Is};
-ghost use Rattle.job.specs.Bounds.{Bounds};
 ghost use Rattle.std.specs.Prelude.{◌≤◌};
+ghost use Rattle.basis.specs.Figure.{Is};
+ghost use Rattle.kinds.specs.Kinds.{family_number};
 ghost use Rattle.calculation.specs.Whole.{deck, fittings, deck_live, deck_load, raised, force, force_wind};
-ghost use Rattle.calculation.specs.Bounded.{Within, WithinSixteen, IsLoad};
+ghost use Rattle.calculation.specs.Bounded.{Within, IsLoad};
 
 use crate::constants::{board_of, overhang_of, rail_of};
-use basis::ceil_div;
-use job::Job;
+use job::standing::StandingJob;
+use kinds::Family;
+use std::marker::Model;
 
-// Dead and live load, in 1/20,000 N.
+// Dead and live load, in 1/20,000 N, that of at most sixteen jobs one above the other.
 #[derive(Clone, Copy)]
 pub struct Load {
     pub dead: u64,
     pub live: u64,
 }
 
+impl Model for Load {
+    ghost use Rattle.calculation.specs.Parts.{Load};
+    ghost use Rattle.calculation.specs.Bounded.{WithinSixteen};
+
+    ghost Value = { Load };
+
+    ghost view = { λ l. record { dead = l.dead; live = l.live } };
+
+    ghost invariant = { λ l. WithinSixteen record { dead = l.dead; live = l.live } };
+
+    ghost inverse = { λ l. record { dead = l.dead; live = l.live } };
+}
+
 // The deck's width, cm.
-fn deck_of(family: u32, lb: u32) -> u64
+fn deck_of(family: Family, lb: u32) -> u64
     requires { lb ≤ 155 }
-    ensures { Is result (deck family lb) 185 }
+    ensures { Is result (deck (family_number family) lb) 185 }
 {
-    let lb = lb as u64;
-    lb + overhang_of(family)
+    u64::from(lb) + overhang_of(family)
 }
 
 // G2.
-fn fittings_of(j: Job) -> u64
-    requires { Bounds j }
-    ensures { Is result (fittings j) 280000000 }
+fn fittings_of(j: &StandingJob) -> u64
+    ensures { Is result (fittings j.now) 280000000 }
 {
-    let la = j.la as u64;
-    let boarded = j.boarded as u64;
-    let working = j.working as u64;
-    let nets = j.nets as u64;
+    let la = u64::from(j.la);
+    let boarded = u64::from(j.boarded);
+    let working = u64::from(j.working);
+    let nets = u64::from(j.nets);
     boarded * board_of(j.boards) * la * deck_of(j.family, j.lb)
         + 200 * working * rail_of(j.boards) * la
         + 20000 * nets
 }
 
 // L.
-fn deck_live(j: Job) -> u64
-    requires { Bounds j }
-    ensures { Is result (deck_live j) 1110000000 }
+fn deck_live(j: &StandingJob) -> u64
+    ensures { Is result (deck_live j.now) 1110000000 }
 {
-    let total = j.total as u64;
-    let la = j.la as u64;
-    total * la * deck_of(j.family, j.lb)
+    u64::from(j.total) * u64::from(j.la) * deck_of(j.family, j.lb)
 }
 
 // What a job's pole carries beside the structure.
-// requires: judge shows the bounds by examining the job.
-pub fn deck_load(j: Job) -> Load
-    requires { Bounds j }
-    ensures { IsLoad result (deck_load j) 280000000 1110000000 }
+pub fn deck_load(j: &StandingJob) -> Load
+    ensures { IsLoad result (deck_load j.now) 280000000 1110000000 }
 {
     Load {
         dead: fittings_of(j),
@@ -67,28 +74,22 @@ pub fn raised_by(l: Load, weight: u32, h: u32) -> Load
     requires { Within l 280000000 1110000000 × (weight ≤ 500) × (h ≤ 6000) }
     ensures { IsLoad result (raised l weight h) 880000000 1110000000 }
 {
-    let weight = weight as u64;
-    let h = h as u64;
     Load {
-        dead: 200 * weight * h + l.dead,
+        dead: 200 * u64::from(weight) * u64::from(h) + l.dead,
         live: l.live,
     }
 }
 
 // N.
-// requires: judge shows it of an accepted job's load, formwork of a support's; that of sixteen jobs one above the other is within it.
 pub fn force_of(l: Load) -> u64
-    requires { WithinSixteen l }
     ensures { Is result (force l) 1543200 }
 {
-    ceil_div(12 * l.dead + 14 * l.live, 200000)
+    (12 * l.dead + 14 * l.live).div_ceil(200000)
 }
 
 // Nw.
-// requires: as for N.
 pub fn force_wind_of(l: Load) -> u64
-    requires { WithinSixteen l }
     ensures { Is result (force_wind l) 1543200 }
 {
-    ceil_div(120 * l.dead + 119 * l.live, 2000000)
+    (120 * l.dead + 119 * l.live).div_ceil(2000000)
 }

@@ -29,11 +29,9 @@ module _ {s t : Support} (h : HarsherSupport s t) where
   column_slenderness_grows = rounded_tenths_grows (ceil_grows (search mono depth 12) (ap radius h.tube))
 
   force_grows : force (load s) ≤ force (load t)
-  unfolding load
   force_grows = force_of_grows (mul-le-mul_left 20000 h.dead) (mul-le-mul_left 20000 h.live)
 
   force_wind_grows : force_wind (load s) ≤ force_wind (load t)
-  unfolding load
   force_wind_grows = force_wind_of_grows (mul-le-mul_left 20000 h.dead) (mul-le-mul_left 20000 h.live)
 
   module _ (sheet : List ℕ) (f : Stands sheet) where

@@ -30,9 +30,9 @@ module _ {s : Support} (r : Bounds s) where
   column_slenderness_most = rounded_tenths_most column_tenths_most
 
   pub force_most : force (load s) ≤ 156000
-  unfolding force load ceil
+  unfolding force ceil
   force_most = ceil_below 200000 (12 * (20000 * 60000) + 14 * (20000 * 60000)) tt (search mono depth 12)
 
   pub force_wind_most : force_wind (load s) ≤ 156000
-  unfolding force_wind load ceil
+  unfolding force_wind ceil
   force_wind_most = ceil_below 2000000 (120 * (20000 * 60000) + 119 * (20000 * 60000)) tt (search mono depth 12)

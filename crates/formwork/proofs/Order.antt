@@ -4,10 +4,12 @@ use mathlib.Core.Path.{◌≡◌, refl, ap, ◌∙◌}
 use mathlib.Core.List.{List}
 use Prim.Native.Nat.{ℕ}
 use lib.Dec.{lit≤}
+use lib.ListN.{get_or}
+use Rattle.std.specs.Prelude.{Ok}
+use Rattle.judge.specs.Answer.{verdict_in}
 use Rattle.basis.specs.Fraction.{fractions, ◌≼◌}
 use Rattle.basis.proofs.Order.{mono, at_most_itself}
 use Rattle.support.specs.declared.Support.{Support}
-use Rattle.support.specs.Examine as Support
 use Rattle.support.specs.SupportS.{support_S}
 use Rattle.sheet.specs.SheetT.{sheet_T}
 use Rattle.section5.specs.Section5.{soil_factor}
@@ -16,25 +18,25 @@ use Rattle.calculation.specs.Whole.{force, force_wind}
 use Rattle.calculation.proofs.Verdicts.{worse_at}
 use Rattle.formwork.specs.Whole as W
 use Rattle.judge.specs.Marked.{examined}
-use Rattle.formwork.specs.Answer.{refusal, Accepted, answer}
+use Rattle.formwork.specs.Answer.{Accepted}
 use Rattle.formwork.specs.Order.{verdict_at, harsh, Order}
 use Rattle.formwork.proofs.Same.{judgement_same}
 use Rattle.formwork.proofs.Keep.{worse}
-use Rattle.formwork.proofs.Ways.{sheet_stands, accepted_judgement}
+use Rattle.formwork.proofs.Ways.{sheet_stands, accepted_answer}
 
-verdicts_are : (sheet : List ℕ) (s : Support) → Accepted sheet s
-    → (answer sheet s).judgement.verdicts ≡ W.verdicts (W.column_of sheet s) s (W.mw s) (force (W.load s)) (force_wind (W.load s))
+verdicts_are : (sheet : List ℕ) (s : Support) → Accepted sheet s → (i : ℕ)
+    → verdict_at sheet s i ≡ get_or (W.verdicts (W.column_of sheet s) s (W.mw s) (force (W.load s)) (force_wind (W.load s))) i 0
 unfolding W.judgement
-verdicts_are sheet s a = ap (λ g. g.verdicts) (accepted_judgement sheet s a ∙ judgement_same s sheet)
+verdicts_are sheet s a i = ap (λ r. verdict_in r i) (accepted_answer sheet s a ∙ ap Ok (judgement_same s sheet))
 
 no_pass_gained : (sheet : List ℕ) (s t : Support) → Accepted sheet s → Accepted sheet t → HarsherSupport s t → (i : ℕ) → verdict_at sheet s i ≡ 2 → verdict_at sheet t i ≡ 2
-no_pass_gained sheet s t a b h i = rw (verdicts_are sheet s a, verdicts_are sheet t b) (worse_at (worse h sheet (sheet_stands sheet t b)) i)
+no_pass_gained sheet s t a b h i = rw (verdicts_are sheet s a i, verdicts_are sheet t b i) (worse_at (worse h sheet (sheet_stands sheet t b)) i)
 
 reflexive : (s : Support) → HarsherSupport s s
 reflexive s = search (mono, at_most_itself)
 
 accepted : Accepted sheet_T support_S × Accepted sheet_T harsh
-unfolding Accepted refusal examined support_S harsh Support.examination Support.outside Support.ranges
+unfolding examined support_S harsh
 accepted = (refl, refl)
 
 ordered : HarsherSupport support_S harsh

@@ -26,11 +26,11 @@ module _ (s : Support) where
   Mw_same = rw wk_same (wind_moment_same (W.wk s) s.bay s.step)
 
   N_same : P.N s ≡ C.force (W.load s)
-  unfolding fractions P.dead P.live P.exact_N P.N C.force W.load
+  unfolding fractions P.dead P.live P.exact_N P.N C.force
   N_same = up_is _ _ _ (omega arith)
 
   Nw_same : P.Nw s ≡ C.force_wind (W.load s)
-  unfolding fractions P.dead P.live P.exact_Nw P.Nw C.force_wind W.load
+  unfolding fractions P.dead P.live P.exact_Nw P.Nw C.force_wind
   Nw_same = up_is _ _ _ (omega arith)
 
   column_tenths_same : up (whole 10 ⊗ P.exact_Z s) ≡ W.column_tenths s

@@ -1,16 +1,17 @@
 -- Document 02, request 2: a heavier or weaker-founded support, otherwise alike, gets no pass back; about what judging answers.
 -- Assumes nothing.
-use Rattle.std.specs.Prelude.{◌≡◌, List, [], ◌∷◌, ℕ, get_or}
+use Rattle.std.specs.Prelude.{◌≡◌, List, [], ◌∷◌, ℕ}
 use Rattle.support.specs.declared.Support.{Support}
 use Rattle.support.specs.Support.{support_of}
 use Rattle.support.specs.SupportS.{support_S}
 use Rattle.sheet.specs.SheetT.{sheet_T}
 use Rattle.section5.specs.Harsher.{HarsherSupport}
+use Rattle.judge.specs.Answer.{verdict_in}
 use Rattle.formwork.specs.Answer.{Accepted, answer}
 
 -- verdict i, from 0, of what judging answers
 abbrev pub verdict_at : List ℕ → Support → ℕ → ℕ
-verdict_at sheet s i = get_or (answer sheet s).judgement.verdicts i 0
+verdict_at sheet s i = verdict_in (answer sheet s) i
 
 -- a support that differs from S in every field that the order does not hold equal
 unfoldable pub harsh : Support

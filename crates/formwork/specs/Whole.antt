@@ -6,12 +6,11 @@ use Rattle.support.specs.declared.Support.{Support}
 use Rattle.section5.specs.Section5.{verdict}
 use Rattle.section5.specs.declared.Heights.TheVariants.{NoLine}
 use Rattle.section5.specs.declared.Judgement.{Judgement}
-use Rattle.calculation.specs.declared.loads.Load.{Load}
-use Rattle.calculation.specs.declared.columns.Column.{Column}
+use Rattle.calculation.specs.Parts.{Load, Column}
 use Rattle.calculation.specs.Whole.{radius, wind_pressure, wind_moment, force, force_wind, rounded_tenths, column_at, bears, bends, base_bears, ground_bears}
 
 -- what the pole carries, in 1/20,000 N
-unfoldable pub load : Support → Load
+abbrev pub load : Support → Load
 load s = record { dead = 20000 * s.dead; live = 20000 * s.live }
 
 -- N/m², up; the shape factor in 1/100,000

@@ -8,6 +8,8 @@ use Prim.Native.Nat.{ℕ, zero, suc, ◌≤◌, ◌<◌}
 use native.Mathlib.Nat.{le_refl}
 use native.Mathlib.Omega.{arith}
 use lib.Dec.{T, lit≤}
+use lib.ListN.{get_or}
+use Rattle.std.specs.Prelude.{Ok}
 use Rattle.basis.specs.Fraction.{fractions, ◌≼◌}
 use Rattle.basis.proofs.Order.{mono, at_most_itself}
 use Rattle.basis.proofs.Searches.{top_mono, top_exact}
@@ -20,10 +22,10 @@ use Rattle.calculation.specs.Whole as W
 use Rattle.calculation.proofs.Same.{judgement_same, poles_same}
 use Rattle.calculation.proofs.Verdicts.{worse_at}
 use Rattle.calculation.proofs.Keep.{worse, keep_poles}
-use Rattle.judge.specs.Answer.{Accepted, answer}
+use Rattle.judge.specs.Answer.{Accepted, answer, verdict_in, heights_in}
 use Rattle.judge.specs.Marked.{examined}
 use Rattle.judge.specs.Demand3.{rank, UpTo, heights_of, verdict_at, mild, harsh, Demand3}
-use Rattle.judge.proofs.Ways.{sheet_stands, job_stands, accepted_judgement}
+use Rattle.judge.proofs.Ways.{sheet_stands, job_stands, accepted_answer}
 
 reflexive : (j : Job) → Harsher j j
 reflexive j = search (mono, at_most_itself)
@@ -42,20 +44,20 @@ abbrev poles : List ℕ → Job → ℕ → Bool
 poles s j = W.poles (W.column_of s j) (W.deck_load j) j.weight (W.mw j) (W.not_due j)
 
 module _ (s : List ℕ) (j : Job) (a : Accepted s j) where
-  judgement_is : (answer s j).judgement ≡ W.judgement s j
-  judgement_is = accepted_judgement s j a ∙ judgement_same j s
+  answer_is : answer s j ≡ Ok (W.judgement s j)
+  answer_is = accepted_answer s j a ∙ ap Ok (judgement_same j s)
 
-  verdicts_are : (answer s j).judgement.verdicts ≡ W.verdicts (W.column_of s j) j (W.wk j) (W.mw j) (W.force (W.load j j.height)) (W.force_wind (W.load j j.height)) (W.not_due j)
+  verdicts_are : (i : ℕ) → verdict_at s j i ≡ get_or (W.verdicts (W.column_of s j) j (W.wk j) (W.mw j) (W.force (W.load j j.height)) (W.force_wind (W.load j j.height)) (W.not_due j)) i 0
   unfolding W.judgement
-  verdicts_are = ap (λ r. r.verdicts) judgement_is
+  verdicts_are i = ap (λ r. verdict_in r i) answer_is
 
   heights_are : heights_of s j ≡ W.heights j.family (W.count s j)
   unfolding W.judgement
-  heights_are = ap (λ r. r.heights) judgement_is
+  heights_are = ap heights_in answer_is
 
 no_pass_gained : (s : List ℕ) (j k : Job) → Accepted s j → Accepted s k → Harsher j k → (i : ℕ) → verdict_at s j i ≡ 2 → verdict_at s k i ≡ 2
 no_pass_gained s j k a b h i =
-    rw (verdicts_are s j a, verdicts_are s k b) (worse_at (worse s h (bounds k (job_stands s k b)) (sheet_stands s k b)) i)
+    rw (verdicts_are s j a i, verdicts_are s k b i) (worse_at (worse s h (bounds k (job_stands s k b)) (sheet_stands s k b)) i)
 
 no_height_gained : (s : List ℕ) (j k : Job) → Accepted s j → Accepted s k → Harsher j k → rank (heights_of s k) ≤ rank (heights_of s j)
 unfolding W.count W.height_count
@@ -71,7 +73,7 @@ height_exact s j a H l =
     rw (poles_same j s H, heights_are s j a) (λ t. u.1 (e.0 t), λ v. e.1 (u.0 v))
 
 accepted : Accepted sheet_T mild × Accepted sheet_T harsh
-unfolding Accepted examined mild harsh
+unfolding examined mild harsh
 accepted = (refl, refl)
 
 ordered : Harsher mild harsh

@@ -1,39 +1,33 @@
 -- What judging answers: the first refusal of 1 to 5, or the judgement of Section5.
 -- Assumes nothing.
-use Rattle.std.specs.Prelude.{ℕ, ◌≡◌, cond, List, replicate, eqb}
-use Rattle.basis.specs.Refusal.{number, first}
+use Rattle.std.specs.Prelude.{ℕ, ◌≡◌, List, get_or, Result, Ok, Err}
+use Rattle.basis.specs.Refusal.{Examined, nothing, first}
 use Rattle.basis.specs.declared.Refusal.{Refusal}
 use Rattle.job.specs.declared.Job.{Job}
 use Rattle.job.specs.Examine as Job
 use Rattle.sheet.specs.Sheet as Sheet
+use Rattle.section5.specs.declared.Heights.{Heights}
 use Rattle.section5.specs.declared.Heights.TheVariants.{NoLine}
 use Rattle.section5.specs.declared.Judgement.{Judgement}
-use Rattle.section5.specs.Section5.{checks, judgement}
-use Rattle.judge.specs.declared.Judged.{Judged}
+use Rattle.section5.specs.Section5.{judgement}
 
 -- 1 and 2 of the sheet, then 3, 4 and 5 of the job
-unfoldable pub refusal : List ℕ → Job → Refusal
+abbrev pub refusal : List ℕ → Job → Examined
 refusal sheet j = first (Sheet.examination sheet) (Job.examination j)
 
 -- judging refuses neither the job nor its sheet
-unfoldable pub Accepted : List ℕ → Job → Type 0
-Accepted sheet j = number (refusal sheet j) ≡ 0
-
--- what stands beside a refusal
-unfoldable pub blank : Judgement
-blank =
-    record {
-      verdicts = replicate checks 0;
-      figures = replicate checks 0;
-      heights = NoLine;
-      wk = 0;
-      mw = 0;
-      z = 0;
-    }
+abbrev pub Accepted : List ℕ → Job → Type 0
+Accepted sheet j = refusal sheet j ≡ nothing
 
 -- a refusal, or the judgement where nothing is refused
-abbrev pub answered : Refusal → Judgement → Judged
-answered refusal g = record { refusal = refusal; judgement = cond (eqb (number refusal) 0) g blank }
+abbrev pub answer : List ℕ → Job → Result Judgement Refusal
+answer sheet j = first (refusal sheet j) (Ok (judgement j sheet))
 
-unfoldable pub answer : List ℕ → Job → Judged
-answer sheet j = answered (refusal sheet j) (judgement j sheet)
+-- of what judging answers: verdict i, from 0, and the heights; after a refusal there are none
+abbrev pub verdict_in : Result Judgement Refusal → ℕ → ℕ
+verdict_in (Ok g) i = get_or g.verdicts i 0
+verdict_in (Err r) i = 0
+
+abbrev pub heights_in : Result Judgement Refusal → Heights
+heights_in (Ok g) = g.heights
+heights_in (Err r) = NoLine

@@ -1,13 +1,13 @@
 -- Demand 3, about what judging answers: no failed check recovers, no height is gained, and the stability height is exact.
 -- Assumes nothing.
-use Rattle.std.specs.Prelude.{◌≡◌, List, [], ◌∷◌, ◌↔◌, ℕ, suc, ◌≤◌, get_or, T}
+use Rattle.std.specs.Prelude.{◌≡◌, List, [], ◌∷◌, ◌↔◌, ℕ, suc, ◌≤◌, T}
 use Rattle.job.specs.declared.Job.{Job}
 use Rattle.job.specs.Job.{job_of}
 use Rattle.sheet.specs.SheetT.{sheet_T}
 use Rattle.section5.specs.declared.Heights.{Heights}
 use Rattle.section5.specs.declared.Heights.TheVariants.{NoLine, Nowhere, Both}
 use Rattle.section5.specs.Section5.{poles}
-use Rattle.judge.specs.Answer.{Accepted, answer}
+use Rattle.judge.specs.Answer.{Accepted, answer, verdict_in, heights_in}
 use Rattle.section5.specs.Harsher.{Harsher}
 
 -- stability heights in order: none counts as below 0
@@ -24,10 +24,10 @@ UpTo H (Both most permitted) = H ≤ most
 
 -- verdict i, from 0, of what judging answers, and its heights
 abbrev pub verdict_at : List ℕ → Job → ℕ → ℕ
-verdict_at sheet j i = get_or (answer sheet j).judgement.verdicts i 0
+verdict_at sheet j i = verdict_in (answer sheet j) i
 
 abbrev pub heights_of : List ℕ → Job → Heights
-heights_of sheet j = (answer sheet j).judgement.heights
+heights_of sheet j = heights_in (answer sheet j)
 
 -- two jobs that differ in every field that the order does not hold equal
 unfoldable pub mild : Job

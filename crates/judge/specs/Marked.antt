@@ -1,27 +1,30 @@
 -- The marked cases of document 01 on what judging refuses: in each row what the definitions compute, and what the paper says.
 -- Assumes nothing.
-use Rattle.std.specs.Prelude.{ℕ, refl, List, [], ◌∷◌, set}
+use Rattle.std.specs.Prelude.{ℕ, refl, List, [], ◌∷◌, set, Ok, Err}
 use Rattle.basis.specs.Search.{first_fail}
-use Rattle.basis.specs.Range.{field, lowest}
-use Rattle.basis.specs.Refusal.{number, place, unless, first}
+use Rattle.basis.specs.Refusal.{number, place, Examined}
 use Rattle.basis.specs.Marked.{Row, row, Hold}
 use Rattle.job.specs.declared.Job.{Job}
 use Rattle.job.specs.Job.{job_of}
-use Rattle.job.specs.Ranges.{lb_stands, height_stands, shield_stands, geometry, loads, wind, ground, ranges, outside}
-use Rattle.job.specs.Examine as Job
+use Rattle.job.specs.Ranges.{ranges, outside}
 use Rattle.sheet.specs.Sheet as Sheet
 use Rattle.job.specs.JobJ.{numbers_J, job_J}
 use Rattle.sheet.specs.SheetT.{sheet_T}
-use Rattle.judge.specs.Answer.{refusal, answer}
+use Rattle.judge.specs.Answer.{refusal}
 
 -- a single row of 24 m before a wall of this thickness
 unfoldable pub single_with : ℕ → Job
 unfolding job_of numbers_J
 single_with thickness = job_of (set (set (set numbers_J 0 2) 6 2400) 19 thickness)
 
--- what is refused of a sheet and a job: the number and the place
+-- what is refused: the number and the place, 0 and 0 where nothing is
+abbrev pub told : Examined → List ℕ
+told (Ok none) = 0 ∷ 0 ∷ []
+told (Err r) = number r ∷ place r ∷ []
+
+-- of a sheet and a job
 unfoldable pub refused : List ℕ → Job → List ℕ
-refused sheet j = number (answer sheet j).refusal ∷ place (answer sheet j).refusal ∷ []
+refused sheet j = told (refusal sheet j)
 
 pub rows : List Row
 unfolding sheet_T job_J single_with refused
@@ -38,9 +41,9 @@ rows =
 
 -- on an `unfolding` line: all that examining a sheet and a job computes
 unfoldable pub examined : Unit {0}
-unfolding sheet_T first_fail unless first lb_stands height_stands shield_stands geometry loads wind ground ranges field lowest outside Job.examination Sheet.stands Sheet.entry_stands Sheet.fault Sheet.examination refusal
+unfolding sheet_T first_fail ranges outside Sheet.entry_stands Sheet.fault Sheet.first_fault
 examined = tt
 
 pub marked : Hold rows
-unfolding Hold rows examined answer
+unfolding Hold rows examined
 marked = (refl, (refl, (refl, (refl, (refl, tt)))))

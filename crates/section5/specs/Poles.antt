@@ -1,22 +1,20 @@
 -- The order of heights, and the pole checks: those of a job at a height are verdicts 7 and 8 of the job with that height.
 -- Assumes nothing.
-use Rattle.std.specs.Prelude.{◌≡◌, List, ◌↔◌, ℕ, ◌≤◌, get_or, set, T}
+use Rattle.std.specs.Prelude.{◌≡◌, List, ◌↔◌, ℕ, ◌≤◌, get_or, set, T, Option, None, Some}
 use Rattle.job.specs.declared.Job.{Job}
 use Rattle.job.specs.Job.{job_of, numbers}
-use Rattle.section5.specs.declared.Height.{Height}
-use Rattle.section5.specs.declared.Height.TheVariants.{None, At}
 use Rattle.section5.specs.Section5.{verdicts, poles}
 
 -- the first height is no greater than the second; none counts as below 0
-abbrev pub NoHigher : Height → Height → Type 0
+abbrev pub NoHigher : Option ℕ → Option ℕ → Type 0
 NoHigher None second = Unit
-NoHigher (At H) None = ⊥
-NoHigher (At H) (At K) = H ≤ K
+NoHigher (Some H) None = ⊥
+NoHigher (Some H) (Some K) = H ≤ K
 
 -- H is up to a height; nothing is, where there is none
-abbrev pub UpTo : ℕ → Height → Type 0
+abbrev pub UpTo : ℕ → Option ℕ → Type 0
 UpTo H None = ⊥
-UpTo H (At most) = H ≤ most
+UpTo H (Some most) = H ≤ most
 
 -- the job with the height H for field 7, its other fields as they stand
 unfoldable pub with_height : ℕ → Job → Job

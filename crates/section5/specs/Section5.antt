@@ -1,11 +1,9 @@
 -- Document 01, from "Constants" to "Heights", in its order and its symbols, with what document 02 changes of it: lengths in metres, forces in N, loads in N/m² and N/m.
 -- Assumes nothing.
-use Rattle.std.specs.Prelude.{ℕ, zero, suc, min, Bool, true, false, ◌&&◌, ◌||◌, cond, List, [], ◌∷◌, get_or, ltb, eqb}
+use Rattle.std.specs.Prelude.{ℕ, zero, suc, min, Bool, true, false, ◌&&◌, ◌||◌, cond, List, [], ◌∷◌, get_or, ltb, eqb, Option, None, Some}
 use Rattle.basis.specs.Fraction.{Ratio, whole, tenths, hundredths, thousandths, ◌⊕◌, ◌⊖◌, ◌⊗◌, ◌⊘◌, ◌÷◌, ◌², ◌³, ◌⁴, ◌≼◌, up, down, fractions}
 use Rattle.job.specs.declared.Job.{Job}
 use Rattle.section5.specs.Decimals.{0·001, 0·175, 0·213, 0·30, 0·7, 1·0, 1·146, 1·155, 1·19, 1·2, 1·3, 1·4, 1·615, 2·15, 2·30}
-use Rattle.section5.specs.declared.Height.{Height}
-use Rattle.section5.specs.declared.Height.TheVariants.{None, At}
 use Rattle.section5.specs.declared.Heights.{Heights}
 use Rattle.section5.specs.declared.Heights.TheVariants.{Nowhere, Both}
 use Rattle.section5.specs.declared.Judgement.{Judgement}
@@ -24,9 +22,9 @@ verdict true = 1
 verdict false = 2
 
 -- the greatest H from 0 to n at which the test passes; none if not even 0 does
-unfoldable pub greatest : (ℕ → Bool) → ℕ → Height
-greatest p zero = elim (p zero) [ true ↦ At zero | false ↦ None ]
-greatest p (suc n) = elim (p (suc n)) [ true ↦ At (suc n) | false ↦ greatest p n ]
+unfoldable pub greatest : (ℕ → Bool) → ℕ → Option ℕ
+greatest p zero = elim (p zero) [ true ↦ Some zero | false ↦ None ]
+greatest p (suc n) = elim (p (suc n)) [ true ↦ Some (suc n) | false ↦ greatest p n ]
 
 -- ---- Constants
 
@@ -389,7 +387,7 @@ module _ (j : Job) where
   poles sheet H = check7 sheet H && (not_due || check8 sheet H)
 
   -- the stability height, cm
-  unfoldable pub stability : List ℕ → Height
+  unfoldable pub stability : List ℕ → Option ℕ
   stability sheet = greatest (poles sheet) 6000
 
   -- the permitted height of a stability height H (5.3.7), cm
@@ -399,9 +397,9 @@ module _ (j : Job) where
       (cond double 5000 2400)
 
   -- both heights, or none
-  unfoldable pub heights : Height → Heights
+  unfoldable pub heights : Option ℕ → Heights
   heights None = Nowhere
-  heights (At H) = Both H (permitted H)
+  heights (Some H) = Both H (permitted H)
 
   -- ---- what a report tells
 

@@ -4,14 +4,7 @@
 // How many checks there are.
 pub const CHECKS: usize = 11;
 
-// A height in cm, or none.
-#[derive(Clone, Copy)]
-pub enum Height {
-    None,
-    At(u64),
-}
-
-// What a report says of heights.
+// What a report says of heights: not an Option, since a report without the line is not one whose line says none.
 #[derive(Clone, Copy)]
 pub enum Heights {
     // no line: heights are not asked for
@@ -22,7 +15,7 @@ pub enum Heights {
     Both(u64, u64),
 }
 
-// What is told of a job that is accepted: each place of a row is fixed by its check.
+// What is told of a job that is accepted: each place of a row is fixed by its check, and the rows are held by value, as the paper requires.
 #[derive(Clone, Copy)]
 pub struct Judgement {
     pub verdicts: [u8; CHECKS],

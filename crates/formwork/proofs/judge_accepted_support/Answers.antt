@@ -1,6 +1,6 @@
 -- `judge_accepted_support` meets its contract. Assumes nothing.
-use Rattle.support.proofs.Bounds.{bounds}
+use Rattle.formwork.proofs.Ways.{assembled}
 use Rattle.formwork.proofs.judge_accepted_support.Goals as goal
 
-pub judgement_of-requires : goal.judgement_of-requires
-judgement_of-requires c = (c.requires.0, bounds _ c.requires.1)
+pub returns : goal.returns
+returns c = assembled _ _ c.s.view_is c.pressure_of-w.ensures.is c.wind_moment-m.ensures.is c.slenderness_of-z.ensures.is c.column_of-c.ensures c.load_of-load.ensures.is c.force_of-n.ensures.is c.force_wind_of-nw.ensures.is c.verdicts_of.ensures

@@ -1,6 +1,6 @@
 -- `judge_accepted` meets its contract. Assumes nothing.
-use Rattle.job.proofs.Bounds.{bounds}
+use Rattle.judge.proofs.Ways.{assembled}
 use Rattle.judge.proofs.judge_accepted.Goals as goal
 
-pub judgement_of-requires : goal.judgement_of-requires
-judgement_of-requires c = (c.requires.0, bounds _ c.requires.1)
+pub returns : goal.returns
+returns c = assembled _ _ c.j.view_is c.e.view_is c.e-2.view_is c.effects_of-e.ensures c.column_slenderness-z.ensures.is c.column_of-c.ensures c.deck_load.ensures.is c.height_count-count.ensures.is c.verdicts_of.ensures c.figures_of.ensures c.heights_of.ensures

@@ -6,4 +6,4 @@ use Rattle.calculation.proofs.Most.{limit7_most}
 use Rattle.calculation.proofs.columns.limit7_of.Goals as goal
 
 pub returns : goal.returns
-returns c = is_most _ tt (limit7_most (search)) (unfold limit7 in refl)
+returns c = rw (← c.c.view_is) (record { figure = is_most _ tt (limit7_most c.c.invariant) (unfold limit7 in refl); proper = c.c.invariant })

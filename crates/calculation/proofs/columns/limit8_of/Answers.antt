@@ -6,4 +6,4 @@ use Rattle.calculation.proofs.Most.{limit8_most}
 use Rattle.calculation.proofs.columns.limit8_of.Goals as goal
 
 pub returns : goal.returns
-returns c = is_most _ tt (limit8_most (search) _) (unfold limit8 in refl)
+returns c = rw (← c.c.view_is) (is_most _ tt (limit8_most c.c.invariant _) (unfold limit8 in refl))

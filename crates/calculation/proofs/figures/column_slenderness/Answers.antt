@@ -1,12 +1,10 @@
 -- `column_slenderness` meets its contract. Assumes nothing.
-use native.Mathlib.Nat.{le_of_eq, le_trans}
+use native.Mathlib.Omega.{arith}
 use Rattle.basis.proofs.Fits.{is_most}
 use Rattle.calculation.specs.Whole.{column_tenths, column_slenderness}
-use Rattle.calculation.proofs.Most.{column_tenths_most, column_slenderness_most}
+use Rattle.calculation.proofs.Ceil.{up}
+use Rattle.calculation.proofs.Most.{column_slenderness_most}
 use Rattle.calculation.proofs.figures.column_slenderness.Goals as goal
 
-pub rounded_tenths-requires : goal.rounded_tenths-requires
-rounded_tenths-requires c = le_trans {m = column_tenths c.args.j} (le_of_eq (unfold column_tenths in cc)) (column_tenths_most c.requires)
-
 pub returns : goal.returns
-returns c = is_most _ tt (column_slenderness_most (search)) (unfold column_slenderness column_tenths in cc)
+returns c = rw (← c.j.view_is) (is_most _ tt (column_slenderness_most c.j.invariant.bounds) (unfold column_slenderness column_tenths in cc (up _ _ (omega arith) c.div_ceil-tenths.ensures)))

@@ -1,0 +1,48 @@
+// What wind and load do to a pole.
+ghost use Rattle.std.specs.Prelude.{◌≡◌};
+ghost use Rattle.calculation.specs.Whole.{effects};
+
+use crate::checks::not_due_of;
+use crate::figures::{shape_of, wind_moment, wind_pressure};
+use crate::loads::{deck_load, force_of, force_wind_of, raised_by};
+use job::standing::StandingJob;
+use std::marker::Model;
+
+// wk, Mw, N, Nw, and whether check 8 is not due.
+#[derive(Clone, Copy)]
+pub struct Effects {
+    pub wk: u64,
+    pub mw: u64,
+    pub n: u64,
+    pub nw: u64,
+    pub not_due: bool,
+}
+
+impl Model for Effects {
+    ghost use Rattle.calculation.specs.Parts.{Effects};
+    ghost use Rattle.calculation.specs.Bounded.{Moderate};
+
+    ghost Value = { Effects };
+
+    ghost view = { λ e. record { wk = e.wk; mw = e.mw; n = e.n; nw = e.nw; not_due = e.not_due } };
+
+    ghost invariant = { λ e. Moderate record { wk = e.wk; mw = e.mw; n = e.n; nw = e.nw; not_due = e.not_due } };
+
+    ghost inverse = { λ e. record { wk = e.wk; mw = e.mw; n = e.n; nw = e.nw; not_due = e.not_due } };
+}
+
+// Of a job, its structure up to its own height.
+pub fn effects_of(j: &StandingJob) -> Effects
+    ensures { result ≡ effects j.now }
+{
+    let shape = shape_of(j.enclosure, j.wall, j.shield);
+    let wk = wind_pressure(j.exposure, shape, j.wind);
+    let load = raised_by(deck_load(j), j.weight, j.height);
+    Effects {
+        wk,
+        mw: wind_moment(wk, j.la, j.step),
+        n: force_of(load),
+        nw: force_wind_of(load),
+        not_due: not_due_of(j),
+    }
+}

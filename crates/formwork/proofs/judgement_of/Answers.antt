@@ -1,6 +1,0 @@
--- `judgement_of` meets its contract. Assumes nothing.
-use Rattle.formwork.proofs.Ways.{assembled}
-use Rattle.formwork.proofs.judgement_of.Goals as goal
-
-pub returns : goal.returns
-returns c = assembled _ _ c.pressure_of-w.ensures.is c.wind_moment-m.ensures.is c.slenderness_of-z.ensures.is c.column_of-c.ensures.is c.load_of-load.ensures.is c.force_of-n.ensures.is c.force_wind_of-nw.ensures.is c.verdicts_of.ensures
