@@ -1,5 +1,6 @@
 -- No number is read where, and only where, none stands at the front of the bytes.
 -- Assumes nothing.
+use Rattle.std.specs.Prelude.{Some, None}
 use Prim.Native.Nat.{ℕ, zero, suc, ◌+◌, ◌*◌, ◌%◌, ◌≤◌, ◌<◌}
 use mathlib.Core.Path.{◌≡◌, ◌∙◌, refl, sym, ap}
 use mathlib.Core.List.{List, [], ◌∷◌, ◌++◌}
@@ -12,19 +13,18 @@ use borrow.Author.Tests.{lt-ltb, le-ltb, ltb-true, ltb-false, ne_eqb, eqb-true, 
 use Rattle.basis.proofs.Tests.{cases}
 use Rattle.groups.specs.Decode.{later_groups, last_group, extend, limit, decode}
 use Rattle.groups.specs.Rows.{Continued, grouped, Damaged}
-use Rattle.groups.specs.declared.Decoded.TheVariants.{Number, Malformed}
 use Rattle.groups.proofs.Encode.{cap}
 use Rattle.groups.proofs.Decode.{first_alone, first_continued, later_continued}
 use Rattle.groups.proofs.Numbers.{differ}
 
-later_ends : (f : ℕ) (bs : List ℕ) → Continued bs → later_groups f bs ≡ Malformed
+later_ends : (f : ℕ) (bs : List ℕ) → Continued bs → later_groups f bs ≡ None
 unfolding later_groups Continued extend
 later_ends zero [] c = refl
 later_ends (suc f) [] c = refl
 later_ends zero (b ∷ bs) c = rw (le-ltb b 128 c.0)
 later_ends (suc f) (b ∷ bs) c = rw (le-ltb b 128 c.0, later_ends f bs c.1) refl
 
-later_zero : (f : ℕ) (gs rest : List ℕ) → Continued gs → later_groups f (gs ++ (0 ∷ rest)) ≡ Malformed
+later_zero : (f : ℕ) (gs rest : List ℕ) → Continued gs → later_groups f (gs ++ (0 ∷ rest)) ≡ None
 unfolding later_groups Continued extend last_group
 later_zero zero [] rest c = refl
 later_zero (suc f) [] rest c = refl
@@ -39,10 +39,10 @@ grouped_pos (g ∷ gs) b p l = omega (arith, grouped_pos gs b p l)
 -- groups that end in one above 0 are read as their number, or are too many for f before the last, and their number too great
 abbrev Read : ℕ → List ℕ → List ℕ → ℕ → Type 0
 Read f gs rest b =
-    (later_groups f (gs ++ (b ∷ rest)) ≡ Number (grouped (gs ++ (b ∷ []))) (suc (length gs)))
-    ⊎ ((later_groups f (gs ++ (b ∷ rest)) ≡ Malformed) × (cap f ≤ grouped (gs ++ (b ∷ []))))
+    (later_groups f (gs ++ (b ∷ rest)) ≡ Some (grouped (gs ++ (b ∷ [])), suc (length gs)))
+    ⊎ ((later_groups f (gs ++ (b ∷ rest)) ≡ None) × (cap f ≤ grouped (gs ++ (b ∷ []))))
 
-extend_number : (g v k : ℕ) → extend g (Number v k) ≡ Number (g % 128 + 128 * v) (suc k)
+extend_number : (g v k : ℕ) → extend g (Some (v, k)) ≡ Some (g % 128 + 128 * v, suc k)
 unfolding extend
 extend_number g v k = let a : v * 128 + g % 128 ≡ g % 128 + 128 * v = omega arith in rw (a, add-one)
 
@@ -56,26 +56,26 @@ later_read (suc f) (g ∷ gs) rest b c p l =
     ⊎_elim (λ e. inl (s ∙ ap (extend g) e ∙ extend_number g _ _)) (λ e. inr (s ∙ ap (extend g) e.0, omega (arith, e.1)))
     (later_read f gs rest b c.1 p l)
 
-limit_great : (v k : ℕ) → 4294967295 < v → limit (Number v k) ≡ Malformed
+limit_great : (v k : ℕ) → 4294967295 < v → limit (Some (v, k)) ≡ None
 unfolding limit
 limit_great v k h = rw (le-ltb v 4294967296 (omega arith))
 
-great_limited : (v k : ℕ) → limit (Number v k) ≡ Malformed → 4294967295 < v
+great_limited : (v k : ℕ) → limit (Some (v, k)) ≡ None → 4294967295 < v
 unfolding limit
 great_limited v k e = cases (ltb v 4294967296) (λ t. differ (sym (rw t at e))) (λ t. omega (arith, ltb-false v 4294967296 t))
 
 -- no number is read from a damaged one
-ends_unread : (bs : List ℕ) → Continued bs → decode bs ≡ Malformed
+ends_unread : (bs : List ℕ) → Continued bs → decode bs ≡ None
 unfolding decode Continued limit extend
 ends_unread [] c = refl
 ends_unread (b ∷ bs) c = first_continued b bs c.0 ∙ ap (λ d. limit (extend b d)) (later_ends 3 bs c.1)
 
-long_unread : (gs rest : List ℕ) → Continued gs → 0 < length gs → decode (gs ++ (0 ∷ rest)) ≡ Malformed
+long_unread : (gs rest : List ℕ) → Continued gs → 0 < length gs → decode (gs ++ (0 ∷ rest)) ≡ None
 unfolding Continued limit extend
 long_unread [] rest c h = absurd (omega arith)
 long_unread (g ∷ gs) rest c h = first_continued g (gs ++ (0 ∷ rest)) c.0 ∙ ap (λ d. limit (extend g d)) (later_zero 3 gs rest c.1)
 
-great_unread : (gs rest : List ℕ) (b : ℕ) → Continued gs → b < 128 → 4294967295 < grouped (gs ++ (b ∷ [])) → decode (gs ++ (b ∷ rest)) ≡ Malformed
+great_unread : (gs rest : List ℕ) (b : ℕ) → Continued gs → b < 128 → 4294967295 < grouped (gs ++ (b ∷ [])) → decode (gs ++ (b ∷ rest)) ≡ None
 unfolding Continued limit extend grouped
 great_unread [] rest b c l h = absurd (omega arith)
 great_unread (g ∷ gs) rest b c l h =
@@ -86,7 +86,7 @@ great_unread (g ∷ gs) rest b c l h =
     ∙ ⊎_elim (λ r. ap (λ d. limit (extend g d)) r ∙ ap limit (extend_number g _ _) ∙ limit_great _ _ h) (λ r. ap (λ d. limit (extend g d)) r.0)
     (later_read 3 gs rest b c.1 (omega arith) l))
 
-pub damaged_unread : (bs : List ℕ) → Damaged bs → decode bs ≡ Malformed
+pub damaged_unread : (bs : List ℕ) → Damaged bs → decode bs ≡ None
 damaged_unread bs (Damaged.ends c) = ends_unread bs c
 damaged_unread bs (Damaged.not_shortest gs rest e c h) = ap decode e ∙ long_unread gs rest c h
 damaged_unread bs (Damaged.too_great gs rest b e c l h) = ap decode e ∙ great_unread gs rest b c l h
@@ -113,7 +113,7 @@ ended (b ∷ bs) =
     (ended bs))
 
 -- groups of which no number is read: the last of several is 0, or their number is too great
-several : (g : ℕ) (gs rest : List ℕ) (b : ℕ) → Continued (g ∷ gs) → b < 128 → decode (g ∷ gs ++ (b ∷ rest)) ≡ Malformed → (b ≡ 0) ⊎ (4294967295 < grouped (g ∷ gs ++ (b ∷ [])))
+several : (g : ℕ) (gs rest : List ℕ) (b : ℕ) → Continued (g ∷ gs) → b < 128 → decode (g ∷ gs ++ (b ∷ rest)) ≡ None → (b ≡ 0) ⊎ (4294967295 < grouped (g ∷ gs ++ (b ∷ [])))
 unfolding Continued grouped cap
 several g gs rest b c l e =
     cases (eqb b 0) (λ t. inl (eqb-true b 0 t))
@@ -124,7 +124,7 @@ several g gs rest b c l e =
     (⊎_elim (λ r. great_limited _ _ (sym (ap limit (extend_number g _ _)) ∙ sym (ap (λ d. limit (extend g d)) r) ∙ m)) (λ r. omega (arith, r.1))
     (later_read 3 gs rest b c.1 (omega arith) l)))
 
-pub unread_damaged : (bs : List ℕ) → decode bs ≡ Malformed → Damaged bs
+pub unread_damaged : (bs : List ℕ) → decode bs ≡ None → Damaged bs
 unread_damaged bs e = ⊎_elim Damaged.ends (λ d. go d.groups d.last d.rest d.is d.continued d.below) (ended bs)
   where
     go : (gs : List ℕ) (b : ℕ) (rest : List ℕ) → bs ≡ gs ++ (b ∷ rest) → Continued gs → b < 128 → Damaged bs

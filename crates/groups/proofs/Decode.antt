@@ -1,7 +1,8 @@
 -- Laws of `decode` by its first byte, at the front and at an offset of the bytes, and the size of what it reads.
 -- Assumes nothing.
+use Rattle.std.specs.Prelude.{Option, Some, None}
 use Prim.Native.Nat.{ℕ, zero, suc, ◌+◌, ◌-◌, ◌*◌, ◌^◌, ◌≤◌, ◌<◌}
-use mathlib.Core.Path.{◌≡◌, refl, subst}
+use mathlib.Core.Path.{◌≡◌, refl, sym, subst}
 use mathlib.Core.Bool.{Bool, true, false, cond}
 use mathlib.Core.List.{List, [], ◌∷◌}
 use native.Mathlib.Numerals.{add-one}
@@ -12,17 +13,15 @@ use lib.Seq.{drop-cons}
 use borrow.Author.Tests.{lt-ltb, le-ltb, ltb-true}
 use Rattle.basis.proofs.Tests.{cases}
 use Rattle.groups.specs.Decode.{later_groups, last_group, extend, limit, decode}
-use Rattle.groups.specs.declared.Decoded.{Decoded}
-use Rattle.groups.specs.declared.Decoded.TheVariants.{Number, Malformed}
 use Rattle.groups.proofs.Encode.{cap, cap_least}
 
 -- by the two cases of a number
-pub decoded : {A : Type 0} (d : Decoded) → ((v k : ℕ) → d ≡ Number v k → A) → (d ≡ Malformed → A) → A
-decoded (Number v k) f g = f v k refl
-decoded Malformed f g = g refl
+pub decoded : {A : Type 0} (d : Option (ℕ × ℕ)) → ((v k : ℕ) → d ≡ Some (v, k) → A) → (d ≡ None → A) → A
+decoded (Some (v, k)) f g = f v k refl
+decoded None f g = g refl
 
 -- a byte without its top bit, and one with it
-pub first_alone : (b : ℕ) (bs : List ℕ) → b < 128 → decode (b ∷ bs) ≡ Number b 1
+pub first_alone : (b : ℕ) (bs : List ℕ) → b < 128 → decode (b ∷ bs) ≡ Some (b, 1)
 unfolding decode
 first_alone b bs l = rw (lt-ltb b 128 l)
 
@@ -35,7 +34,7 @@ unfolding later_groups
 later_continued f b bs l = rw (le-ltb b 128 l)
 
 -- the same at an offset, and the end of the bytes
-pub later_end : (f : ℕ) (s : List ℕ) (at : ℕ) → length s ≤ at → later_groups f (drop at s) ≡ Malformed
+pub later_end : (f : ℕ) (s : List ℕ) (at : ℕ) → length s ≤ at → later_groups f (drop at s) ≡ None
 unfolding later_groups
 later_end zero s at h = rw (drop_of_length-le s h)
 later_end (suc f) s at h = rw (drop_of_length-le s h)
@@ -45,7 +44,7 @@ unfolding later_groups
 later_last zero s at h b = rw (drop-cons s at 0 h, lt-ltb _ _ b)
 later_last (suc f) s at h b = rw (drop-cons s at 0 h, lt-ltb _ _ b)
 
-pub later_none : (s : List ℕ) (at : ℕ) → at < length s → 128 ≤ get_or s at 0 → later_groups 0 (drop at s) ≡ Malformed
+pub later_none : (s : List ℕ) (at : ℕ) → at < length s → 128 ≤ get_or s at 0 → later_groups 0 (drop at s) ≡ None
 unfolding later_groups
 later_none s at h b = rw (drop-cons s at 0 h, le-ltb _ _ b)
 
@@ -56,16 +55,43 @@ later_more (suc f) s at f₁ h b =
     let e : suc f - 1 ≡ f = omega arith in
     rw (add-one, e, drop-cons s at 0 h) (later_continued f (get_or s at 0) (drop (suc at) s) b)
 
-pub decode_end : (s : List ℕ) (at : ℕ) → length s ≤ at → decode (drop at s) ≡ Malformed
+pub decode_end : (s : List ℕ) (at : ℕ) → length s ≤ at → decode (drop at s) ≡ None
 unfolding decode
 decode_end s at h = rw (drop_of_length-le s h)
 
-pub decode_one : (s : List ℕ) (at : ℕ) → at < length s → get_or s at 0 < 128 → decode (drop at s) ≡ Number (get_or s at 0) 1
+pub decode_one : (s : List ℕ) (at : ℕ) → at < length s → get_or s at 0 < 128 → decode (drop at s) ≡ Some (get_or s at 0, 1)
 decode_one s at h b = rw (drop-cons s at 0 h) (first_alone (get_or s at 0) (drop (suc at) s) b)
 
 pub decode_more : (s : List ℕ) (at : ℕ) → at < length s → 128 ≤ get_or s at 0
     → decode (drop at s) ≡ limit (extend (get_or s at 0) (later_groups 3 (drop (at + 1) s)))
 decode_more s at h b = rw (add-one, drop-cons s at 0 h) (first_continued (get_or s at 0) (drop (suc at) s) b)
+
+-- the same of bytes that are known by an equation
+pub none_at_end : (bs : List ℕ) → length bs ≡ 0 → decode bs ≡ None
+unfolding decode
+none_at_end [] h = refl
+none_at_end (b ∷ bs) h = absurd (omega arith)
+
+module _ {bs rest : List ℕ} {b : ℕ} (e : bs ≡ b ∷ rest) where
+  pub one_byte : b < 128 → decode bs ≡ Some (b, 1)
+  one_byte l = rw e (first_alone b rest l)
+
+  module _ {g : ℕ} (h : g ≡ b) (l : 128 ≤ b) where
+    limited : {p : Option (ℕ × ℕ)} → p ≡ extend g (later_groups 3 rest) → limit p ≡ decode bs
+    limited q = rw (q, h, e) (sym (first_continued b rest l))
+
+    pub none_later : None ≡ extend g (later_groups 3 rest) → None ≡ decode bs
+    unfolding limit
+    none_later q = limited q
+
+    module _ {v k : ℕ} (q : Some (v, k) ≡ extend g (later_groups 3 rest)) where
+      pub too_great : 2 ^ 32 ≤ v → None ≡ decode bs
+      unfolding limit
+      too_great t = rw (le-ltb v (2 ^ 32) t) at (limited q)
+
+      pub fits : v < 2 ^ 32 → Some (v, k) ≡ decode bs
+      unfolding limit
+      fits t = rw (lt-ltb v (2 ^ 32) t) at (limited q)
 
 -- a number below m of at most n bytes, which end within l
 pub record Within (m n l v k : ℕ) : Type 0 where
@@ -74,27 +100,27 @@ pub record Within (m n l v k : ℕ) : Type 0 where
   pub ends : k ≤ l
 
 -- such a number, or none
-abbrev pub Bounded : ℕ → ℕ → ℕ → Decoded → Type 0
-Bounded m n l (Number v k) = Within m n l v k
-Bounded m n l Malformed = Unit
+abbrev pub Bounded : ℕ → ℕ → ℕ → Option (ℕ × ℕ) → Type 0
+Bounded m n l (Some (v, k)) = Within m n l v k
+Bounded m n l None = Unit
 
-extend_bounded : (m n l b : ℕ) (p : Decoded) → Bounded m n l p → Bounded (128 * m) (suc n) (suc l) (extend b p)
+extend_bounded : (m n l b : ℕ) (p : Option (ℕ × ℕ)) → Bounded m n l p → Bounded (128 * m) (suc n) (suc l) (extend b p)
 unfolding extend
-extend_bounded m n l b (Number v k) w = record { value = omega arith; count = omega arith; ends = omega arith }
-extend_bounded m n l b Malformed w = tt
+extend_bounded m n l b (Some (v, k)) w = record { value = omega arith; count = omega arith; ends = omega arith }
+extend_bounded m n l b None w = tt
 
-limit_bounded : (m n l : ℕ) (p : Decoded) → Bounded m n l p → Bounded (2 ^ 32) n l (limit p)
+limit_bounded : (m n l : ℕ) (p : Option (ℕ × ℕ)) → Bounded m n l p → Bounded (2 ^ 32) n l (limit p)
 unfolding limit
-limit_bounded m n l (Number v k) w =
+limit_bounded m n l (Some (v, k)) w =
     cases (ltb v (2 ^ 32)) (λ t. rw t (record { value = ltb-true v (2 ^ 32) t; count = w.count; ends = w.ends })) (λ t. rw t tt)
-limit_bounded m n l Malformed w = tt
+limit_bounded m n l None w = tt
 
-last_bounded : (f l b : ℕ) (e : Bool) → b < 128 → Bounded (cap f) (suc f) (suc l) (cond e Malformed (Number b 1))
+last_bounded : (f l b : ℕ) (e : Bool) → b < 128 → Bounded (cap f) (suc f) (suc l) (cond e None (Some (b, 1)))
 last_bounded f l b true h = tt
 last_bounded f l b false h = record { value = omega (arith, cap_least f); count = omega arith; ends = omega arith }
 
 -- a last group, where the first byte has no top bit, else what the later groups give
-first_bounded : (f l b : ℕ) (q : Decoded) → Bounded (cap f) (suc f) (suc l) q → Bounded (cap f) (suc f) (suc l) (cond (ltb b 128) (last_group b) q)
+first_bounded : (f l b : ℕ) (q : Option (ℕ × ℕ)) → Bounded (cap f) (suc f) (suc l) q → Bounded (cap f) (suc f) (suc l) (cond (ltb b 128) (last_group b) q)
 unfolding last_group
 first_bounded f l b q w = cases (ltb b 128) (λ t. rw t (last_bounded f l b (eqb b 0) (ltb-true b 128 t))) (λ t. rw t w)
 
@@ -102,7 +128,7 @@ later_bounded : (f : ℕ) (bs : List ℕ) → Bounded (cap f) (suc f) (length bs
 unfolding later_groups cap
 later_bounded zero [] = tt
 later_bounded (suc f) [] = tt
-later_bounded zero (b ∷ bs) = first_bounded zero (length bs) b Malformed tt
+later_bounded zero (b ∷ bs) = first_bounded zero (length bs) b None tt
 later_bounded (suc f) (b ∷ bs) =
     first_bounded (suc f) (length bs) b (extend b (later_groups f bs)) (extend_bounded (cap f) (suc f) (length bs) b (later_groups f bs) (later_bounded f bs))
 
@@ -114,5 +140,5 @@ decode_bounded (b ∷ bs) =
     cases (ltb b 128) (λ t. rw t (record { value = omega (arith, ltb-true b 128 t); count = omega arith; ends = omega arith }))
     (λ t. rw t (limit_bounded _ 5 (suc (length bs)) (extend b (later_groups 3 bs)) (extend_bounded _ 4 (length bs) b (later_groups 3 bs) (later_bounded 3 bs))))
 
-pub decode_within : (bs : List ℕ) (v k : ℕ) → decode bs ≡ Number v k → Within (2 ^ 32) 5 (length bs) v k
+pub decode_within : (bs : List ℕ) (v k : ℕ) → decode bs ≡ Some (v, k) → Within (2 ^ 32) 5 (length bs) v k
 decode_within bs v k e = subst (Bounded (2 ^ 32) 5 (length bs)) e (decode_bounded bs)

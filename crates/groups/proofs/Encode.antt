@@ -1,13 +1,16 @@
 -- Laws of `encode`: one group, one group more, and how many.
 -- Assumes nothing.
+use Rattle.std.specs.Prelude.{sum_by}
+use Rattle.std.proofs.lemmas.List.Sums.{sum_by-cons}
 use Prim.Native.Nat.{ℕ, zero, suc, ◌+◌, ◌*◌, ◌/◌, ◌%◌, ◌^◌, ◌≤◌, ◌<◌}
 use mathlib.Core.Path.{◌≡◌, ◌∙◌, refl, sym, ap}
 use mathlib.Core.Bool.{cond}
 use mathlib.Core.List.{List, [], ◌∷◌, ◌++◌}
+use native.Mathlib.Numerals.{add-one}
 use native.Mathlib.Omega.{arith}
 use lib.Dec.{ltb, leb}
-use lib.ListN.{length, take, drop, get_or, length-append, length-drop, drop_of_length-le}
-use lib.Seq.{drop-cons, get_or-take, length-take-le}
+use lib.ListN.{length, drop, get_or, length-append, length-drop, drop_of_length-le}
+use lib.Seq.{drop-cons}
 use borrow.Author.Tests.{lt-ltb, le-ltb, ltb-true, lt-leb, leb-true, leb-false}
 use Rattle.basis.proofs.Tests.{cases}
 use Rattle.groups.specs.Encode.{groups, encode, encode_all}
@@ -121,24 +124,26 @@ module _ (n : ℕ) (h : n < 2 ^ 32) where
       let u = leb-false 128 n t in
       rw (t, lt-leb 16384 n (omega arith), lt-leb 2097152 n (omega arith), lt-leb 268435456 n (omega arith)) (sym (ap length (encode_one n u))))
 
+-- the bytes of some numbers, counted one number after the other
+pub all_counted : (ns : List ℕ) → length (encode_all ns) ≡ sum_by (λ n. length (encode n)) ns
+unfolding encode_all
+all_counted [] = refl
+all_counted (n ∷ ns) = rw (length-append, all_counted ns, sum_by-cons)
+
 -- at most five bytes for each number
 pub all_few : (ns : List ℕ) → length (encode_all ns) ≤ 5 * length ns
 unfolding encode_all
 all_few [] = omega arith
 all_few (n ∷ ns) = simp length-append (omega (arith, encode_few n, all_few ns))
 
--- the bytes of the first n of some numbers, of which those before index i are done
-module _ (ns : List ℕ) (n i : ℕ) (h : n ≤ length ns) where
-  pub first_next : i < n → encode_all (drop i (take n ns)) ≡ encode (get_or ns i 0) ++ encode_all (drop (suc i) (take n ns))
-  unfolding encode_all
-  first_next l = let e = length-take-le n ns h in rw (drop-cons (take n ns) i 0 (omega arith), get_or-take n ns i 0 l)
+-- the bytes of some numbers of which those before index i are done
+pub all_next : (ns : List ℕ) (i : ℕ) → i < length ns → encode_all (drop i ns) ≡ encode (get_or ns i 0) ++ encode_all (drop (i + 1) ns)
+unfolding encode_all
+all_next ns i h = rw (add-one, drop-cons ns i 0 h)
 
-  pub first_end : n ≤ i → encode_all (drop i (take n ns)) ≡ []
-  unfolding encode_all
-  first_end l = let e = length-take-le n ns h in rw (drop_of_length-le (take n ns) {i = i} (omega arith))
-
-  pub first_few : length (encode_all (take n ns)) ≤ 5 * n
-  first_few = omega (arith, all_few (take n ns), length-take-le n ns h)
+pub all_end : (ns : List ℕ) (i : ℕ) → length ns ≤ i → encode_all (drop i ns) ≡ []
+unfolding encode_all
+all_end ns i h = rw (drop_of_length-le ns h)
 
 -- each group is a byte
 bytes_cons : (b : ℕ) (bs : List ℕ) → b < 256 → Bytes bs → Bytes (b ∷ bs)

@@ -7,7 +7,7 @@ use native.Mathlib.Nat.{add-zero, zero-add, add_assoc}
 use native.Mathlib.Omega.{arith}
 use lib.ListN.{length, drop, length-append, length-replicate, take-append-drop}
 use lib.Seq.{drop-append_seam, get_or-drop}
-use Rattle.basis.specs.Refusal.{number}
+use Rattle.basis.specs.Refusal.{nothing}
 use Rattle.groups.specs.Encode.{encode, encode_all}
 use Rattle.groups.specs.Decode.{Bytes, decode}
 use Rattle.groups.specs.Numbers.{extra, damage, values}
@@ -46,13 +46,13 @@ values_long (suc n) bs =
     (λ e. rw (values_here n bs e) (length-replicate (suc n) 0))
 
 -- bytes of which nothing is refused are those of the numbers read
-pub all_read : (n at : ℕ) (bs : List ℕ) → Bytes bs → number (damage n at bs) ≡ 0 → encode_all (values n bs) ≡ bs
+pub all_read : (n at : ℕ) (bs : List ℕ) → Bytes bs → damage n at bs ≡ nothing → encode_all (values n bs) ≡ bs
 unfolding damage values encode_all extra
 all_read zero at [] w e = refl
-all_read zero at (b ∷ bs) w e = absurd (omega arith)
+all_read zero at (b ∷ bs) w e = absurd (cc)
 all_read (suc n) at bs w e =
     decoded (decode bs)
     (λ v k f.
     let t = all_read n (at + k) (drop k bs) (λ i. rw get_or-drop (w (k + i))) (rw (damage_next n at v k bs f) at e) in
     rw (values_next n v k bs f, t, ← number_read v k bs w f) (take-append-drop k bs))
-    (λ f. let z = rw (damage_here n at bs f) at e in absurd (omega arith))
+    (λ f. let z = rw (damage_here n at bs f) at e in absurd (cc))

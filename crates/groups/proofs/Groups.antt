@@ -1,69 +1,63 @@
 -- Reading groups from the lowest on gives what the definition gives, which starts from the highest.
 -- Assumes nothing.
-use mathlib.Core.Bool.{cond}
-use mathlib.Core.Path.{◌≡◌, refl}
-use mathlib.Core.List.{List}
-use Prim.Native.Nat.{ℕ, zero, suc, ◌+◌, ◌-◌, ◌*◌, ◌%◌, ◌^◌, ◌≤◌, ◌<◌}
+use Rattle.std.specs.Prelude.{Option, Some, None}
+use mathlib.Core.Path.{◌≡◌, refl, sym}
+use mathlib.Core.List.{List, [], ◌∷◌}
+use Prim.Native.Nat.{ℕ, zero, suc, ◌+◌, ◌*◌, ◌%◌, ◌^◌, ◌≤◌, ◌<◌}
 use native.Mathlib.Nat.{le_refl, mul-le-mul}
 use native.Mathlib.Numerals.{add-one, unary_clauses}
 use native.Mathlib.Omega.{arith}
-use lib.Dec.{ltb}
-use lib.ListN.{length, drop, get_or}
-use borrow.Author.Tests.{lt-ltb, le-ltb, ltb-true, ltb-false}
-use Rattle.basis.proofs.Tests.{cases}
+use lib.ListN.{length}
+use borrow.Author.Tests.{lt-ltb, le-ltb}
 use Rattle.groups.specs.Decode.{later_groups, last_group, extend}
 use Rattle.groups.specs.LowFirst.{after}
-use Rattle.groups.specs.declared.Decoded.{Decoded}
-use Rattle.groups.specs.declared.Decoded.TheVariants.{Number, Malformed}
-use Rattle.groups.proofs.Decode.{later_end, later_last, later_none, later_more}
 
--- after c groups of the value v, the rest of the number at a place
-unfoldable pub resumed : List ℕ → ℕ → ℕ → ℕ → ℕ → Decoded
-resumed s v w c place = cond (ltb c 5) (after v w c (later_groups (4 - c) (drop place s))) Malformed
+-- after c groups of the value v, the rest of a number of which at most n groups are left
+unfoldable pub resumed : ℕ → ℕ → ℕ → ℕ → List ℕ → Option (ℕ × ℕ)
+resumed v w c zero bs = None
+resumed v w c (suc f) bs = after v w c (later_groups f bs)
 
-after_first : (b : ℕ) (p : Decoded) → after (b % 128) 128 1 p ≡ extend b p
+after_first : (b : ℕ) (p : Option (ℕ × ℕ)) → after (b % 128) 128 1 p ≡ extend b p
 unfolding after extend
-after_first b (Number x k) = let e : b % 128 + x * 128 ≡ x * 128 + b % 128 = omega arith in let f : 1 + k ≡ k + 1 = omega arith in rw (e, f)
-after_first b Malformed = refl
+after_first b (Some (x, k)) = let e : b % 128 + x * 128 ≡ x * 128 + b % 128 = omega arith in let f : 1 + k ≡ k + 1 = omega arith in rw (e, f)
+after_first b None = refl
 
-after_next : (v w c b : ℕ) (p : Decoded) → after v w c (extend b p) ≡ after (v + b % 128 * w) (w * 128) (c + 1) p
+after_next : (v w c b : ℕ) (p : Option (ℕ × ℕ)) → after v w c (extend b p) ≡ after (v + b % 128 * w) (w * 128) (c + 1) p
 unfolding after extend
-after_next v w c b (Number x k) =
+after_next v w c b (Some (x, k)) =
     let e : v + (x * 128 + b % 128) * w ≡ v + b % 128 * w + x * (w * 128) = omega arith in
     let f : c + (k + 1) ≡ c + 1 + k = omega arith in
     rw (e, f)
-after_next v w c b Malformed = refl
+after_next v w c b None = refl
 
-pub resumed_first : (s : List ℕ) (b at : ℕ) → resumed s (b % 128) 128 1 at ≡ extend b (later_groups 3 (drop at s))
+pub resumed_first : (b : ℕ) (bs : List ℕ) → resumed (b % 128) 128 1 4 bs ≡ extend b (later_groups 3 bs)
 unfolding resumed
-resumed_first s b at = after_first b (later_groups 3 (drop at s))
+resumed_first b bs = after_first b (later_groups 3 bs)
 
-pub resumed_end : (s : List ℕ) (v w c place : ℕ) → length s ≤ place → resumed s v w c place ≡ Malformed
-unfolding resumed after
-resumed_end s v w c place l = cases (ltb c 5) (λ t. rw (t, later_end (4 - c) s place l)) (λ t. rw t)
+pub resumed_end : (v w c n : ℕ) (bs : List ℕ) → (0 < n → length bs ≡ 0) → resumed v w c n bs ≡ None
+unfolding resumed after later_groups
+resumed_end v w c zero bs h = refl
+resumed_end v w c (suc zero) [] h = refl
+resumed_end v w c (suc (suc f)) [] h = refl
+resumed_end v w c (suc f) (b ∷ bs) h = let z : suc (length bs) ≡ 0 = h (omega arith) in absurd (omega arith)
 
-pub resumed_last : (s : List ℕ) (v w c place : ℕ) → c < 5 → place < length s → get_or s place 0 < 128
-    → resumed s v w c place ≡ after v w c (last_group (get_or s place 0))
-unfolding resumed
-resumed_last s v w c place h l b = rw (lt-ltb c 5 h, later_last (4 - c) s place l b)
+last_alone : (v w c f b : ℕ) (bs : List ℕ) → b < 128 → resumed v w c (suc f) (b ∷ bs) ≡ after v w c (last_group b)
+unfolding resumed later_groups
+last_alone v w c zero b bs l = rw (lt-ltb b 128 l)
+last_alone v w c (suc f) b bs l = rw (lt-ltb b 128 l)
 
-pub resumed_more : (s : List ℕ) (v w c place : ℕ) → c < 5 → place < length s → 128 ≤ get_or s place 0
-    → resumed s v w c place ≡ resumed s (v + get_or s place 0 % 128 * w) (w * 128) (c + 1) (place + 1)
-unfolding resumed after
-resumed_more s v w c place h l b =
-    cases (ltb (c + 1) 5)
-    (λ t.
-    let u = ltb-true (c + 1) 5 t in
-    let e : 4 - c - 1 ≡ 4 - (c + 1) = omega arith in
-    rw (t, lt-ltb c 5 h, later_more (4 - c) s place (omega arith) l b, e, after_next))
-    (λ t.
-    let u = ltb-false (c + 1) 5 t in
-    let e : 4 - c ≡ 0 = omega arith in
-    rw (t, lt-ltb c 5 h, e, later_none s place l b))
+one_more : (v w c f b : ℕ) (bs : List ℕ) → 128 ≤ b → resumed v w c (suc f) (b ∷ bs) ≡ resumed (v + b % 128 * w) (w * 128) (c + 1) f bs
+unfolding resumed later_groups after
+one_more v w c zero b bs l = rw (le-ltb b 128 l)
+one_more v w c (suc f) b bs l = rw (le-ltb b 128 l, after_next)
 
-pub resumed_none : (s : List ℕ) (v w c place : ℕ) → 5 ≤ c → resumed s v w c place ≡ Malformed
-unfolding resumed
-resumed_none s v w c place h = rw (le-ltb c 5 h)
+-- where the next byte is g, the group at index i, and c groups of the later ones were read
+module _ (v w f : ℕ) {c i n g b : ℕ} {rest bs : List ℕ} (d : i ≡ c) (h : g ≡ b) (m : f + 1 ≡ n) (e : rest ≡ b ∷ bs) where
+  pub resumed_last : g < 128 → after v w (i + 1) (last_group g) ≡ resumed v w (c + 1) n rest
+  resumed_last l = let k : n ≡ suc f = omega arith in rw (d, e, k, ← h) (sym (last_alone v w (c + 1) f g bs l))
+
+  pub resumed_more : {c' : ℕ} → c' ≡ c + 1 → 128 ≤ g → resumed (v + g % 128 * w) (w * 128) (c' + 1) f bs ≡ resumed v w (c + 1) n rest
+  resumed_more t l = let k : n ≡ suc f = omega arith in rw (t, e, k, ← h) (sym (one_more v w (c + 1) f g bs l))
 
 -- the weight of a group that is read
 pub weight_most : (c : ℕ) → c ≤ 4 → 128 ^ c ≤ 2 ^ 28

@@ -1,5 +1,6 @@
 -- Laws of places: they add up, and the numbers stand at them; damaged or not, since a damaged number takes no bytes.
 -- Assumes nothing.
+use Rattle.std.specs.Prelude.{None}
 use Prim.Native.Nat.{ℕ, zero, suc, ◌+◌, ◌-◌, ◌<◌}
 use mathlib.Core.Path.{◌≡◌, ◌∙◌, refl, sym, ap}
 use mathlib.Core.List.{List, ◌∷◌, ◌++◌}
@@ -11,12 +12,11 @@ use Rattle.groups.specs.Encode.{encode_all}
 use Rattle.groups.specs.Decode.{decode}
 use Rattle.groups.specs.Numbers.{damage, values, value_of, bytes_of, offset_after}
 use Rattle.groups.specs.Rows.{Narrow}
-use Rattle.groups.specs.declared.Decoded.TheVariants.{Malformed}
 use Rattle.groups.proofs.Decode.{decoded}
 use Rattle.groups.proofs.Files.{values_back}
 use Rattle.groups.proofs.Reading.{damage_next, values_next, damage_here, values_here}
 
-zeros : (n : ℕ) (bs : List ℕ) → decode bs ≡ Malformed → values n bs ≡ replicate n 0
+zeros : (n : ℕ) (bs : List ℕ) → decode bs ≡ None → values n bs ≡ replicate n 0
 unfolding values
 zeros zero bs e = refl
 zeros (suc n) bs e = values_here n bs e
@@ -51,7 +51,7 @@ values_at (suc m) (suc j) bs h =
     rw (values_cons m bs, ← drop-drop) (values_at m j (drop (bytes_of (decode bs)) bs) (omega arith))
 
 -- the place stays at a damaged number
-pub offset_stays : (m : ℕ) (bs : List ℕ) → decode bs ≡ Malformed → offset_after m bs ≡ 0
+pub offset_stays : (m : ℕ) (bs : List ℕ) → decode bs ≡ None → offset_after m bs ≡ 0
 unfolding offset_after bytes_of
 offset_stays zero bs e = refl
 offset_stays (suc m) bs e = rw (e, zero-add) (offset_stays m bs e)

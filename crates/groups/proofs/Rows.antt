@@ -6,29 +6,33 @@ use mathlib.Core.List.{List, [], ◌∷◌, ◌++◌, append-nil, append_assoc}
 use mathlib.Core.Logic.{◌⊎◌, inl, inr, ⊎_elim}
 use native.Mathlib.Nat.{zero-add}
 use native.Mathlib.Omega.{arith}
-use lib.Dec.{lit<}
 use lib.ListN.{length, drop}
 use lib.Seq.{get_or-drop}
 use Rattle.basis.specs.Refusal.{nothing}
-use Rattle.basis.specs.Rows.{Some}
+use Rattle.std.specs.Prelude.{Err}
+use Rattle.basis.specs.declared.Refusal.TheVariants.{Damaged, Trailing}
+use Rattle.basis.specs.Rows.{Some, Refused}
+use Rattle.basis.proofs.Rows.{refused_is}
 use Rattle.groups.specs.Encode.{encode, encode_all}
 use Rattle.groups.specs.Decode.{Bytes, decode}
 use Rattle.groups.specs.Numbers.{extra, damage, values}
-use Rattle.groups.specs.Rows.{Damaged, Starts, Row, Holds, Told}
+use Rattle.groups.specs.Rows.{Starts, Row, Holds, Told}
+use Rattle.groups.specs.Rows as Table
 use Rattle.groups.proofs.Decode.{decoded, decode_within}
 use Rattle.groups.proofs.Numbers.{number_front}
 use Rattle.groups.proofs.Reading.{damage_here}
 use Rattle.groups.proofs.Files.{damage_after, damage_back, values_back}
 use Rattle.groups.proofs.Damaged.{damaged_unread, unread_damaged}
 
-row_is : (count : ℕ) (file : List ℕ) (n p : ℕ) → Row count file n p → (0 < n) × (damage count 0 file ≡ record { number = n; place = p })
+row_is : (count : ℕ) (file : List ℕ) (n p : ℕ) → Row count file n p → Refused (damage count 0 file) n p
 unfolding extra
 row_is count file n p (Row.damaged ns rest s l d) =
     let m : count ≡ length ns + suc (count - suc (length ns)) = omega arith in
-    (lit< tt, rw (s.is, m, damage_after ns (suc (count - suc (length ns))) 0 rest s.narrow, zero-add) (damage_here _ _ rest (damaged_unread rest d)))
-row_is count file n p (Row.trailing ns rest s e h) = (lit< tt, rw (s.is, ← e, damage_back ns 0 rest s.narrow, zero-add) (go rest h))
+    refused_is (Damaged (length (encode_all ns)))
+    (rw (s.is, m, damage_after ns (suc (count - suc (length ns))) 0 rest s.narrow, zero-add) (damage_here _ _ rest (damaged_unread rest d)))
+row_is count file n p (Row.trailing ns rest s e h) = refused_is (Trailing (length (encode_all ns))) (rw (s.is, ← e, damage_back ns 0 rest s.narrow, zero-add) (go rest h))
   where
-    go : (rest : List ℕ) → 0 < length rest → extra (length (encode_all ns)) rest ≡ record { number = 7; place = length (encode_all ns) }
+    go : (rest : List ℕ) → 0 < length rest → extra (length (encode_all ns)) rest ≡ Err (Trailing (length (encode_all ns)))
     go [] h = absurd (omega arith)
     go (b ∷ bs) h = refl
 
@@ -45,7 +49,7 @@ record Parsed (count : ℕ) (file : List ℕ) : Type 0 where
   ns : List ℕ
   rest : List ℕ
   starts : Starts file ns rest
-  stops : (length ns ≡ count) ⊎ ((length ns < count) × Damaged rest)
+  stops : (length ns ≡ count) ⊎ ((length ns < count) × Table.Damaged rest)
 
 parsed : (count : ℕ) (file : List ℕ) → Bytes file → Parsed count file
 unfolding encode_all
@@ -69,7 +73,7 @@ every_is count file w = go (parsed count file w).ns (parsed count file w).rest (
     all ns [] s l = inl (ns, record { is = s.is ∙ append-nil (encode_all ns); narrow = s.narrow; long = l })
     all ns (b ∷ bs) s l = inr (7, (length (encode_all ns), Row.trailing ns (b ∷ bs) s l (omega arith)))
 
-    go : (ns rest : List ℕ) → Starts file ns rest → (length ns ≡ count) ⊎ ((length ns < count) × Damaged rest) → ((ns : List ℕ) × Holds count file ns) ⊎ Some (Row count file)
+    go : (ns rest : List ℕ) → Starts file ns rest → (length ns ≡ count) ⊎ ((length ns < count) × Table.Damaged rest) → ((ns : List ℕ) × Holds count file ns) ⊎ Some (Row count file)
     go ns rest s (inl l) = all ns rest s l
     go ns rest s (inr d) = inr (6, (length (encode_all ns), Row.damaged ns rest s d.0 d.1))
 

@@ -7,7 +7,7 @@ use native.Mathlib.Omega.{arith}
 use lib.ListN.{take}
 use Rattle.groups.proofs.Beginning.{decode_take, damage_take, values_take}
 use Rattle.jobfile.specs.Kind.{Kind, scaffold, support, count, marks_support, kind_of}
-use Rattle.jobfile.specs.Read.{refusal_as, read_as, job_in}
+use Rattle.jobfile.specs.Read.{read_as, job_in}
 use Rattle.jobfile.specs.Beginning.{beginning_length, Beginning}
 
 count_most : (k : Kind) → 5 * count k + 1 ≤ beginning_length
@@ -20,7 +20,6 @@ module _ (file : List ℕ) where
   same_kind = rw (decode_take beginning_length file (omega arith))
 
   same_read : (k : Kind) → read_as k (take beginning_length file) ≡ read_as k file
-  unfolding read_as refusal_as
   same_read k =
       let l = count_most k in
       rw (damage_take (count k) beginning_length 0 file l, values_take (count k) beginning_length file (omega arith))

@@ -10,7 +10,7 @@ use borrow.Author.Tests.{eq-eqb, ne_eqb, eqb-true, eqb-false}
 use Rattle.basis.specs.Rows.{Follows}
 use Rattle.basis.proofs.Tests.{cases, within_le}
 use Rattle.job.specs.Job.{job_of}
-use Rattle.job.specs.Ranges.{geometry, ranges}
+use Rattle.job.specs.Ranges.{ranges}
 use Rattle.job.specs.Rows.{Inside}
 use Rattle.job.proofs.Rows as Job
 use Rattle.support.specs.Support.{support_of}
@@ -26,7 +26,6 @@ use Rattle.groups.proofs.Places.{first_number}
 use Rattle.jobfile.specs.Kind.{Kind, scaffold, support, count, examination, Row, Stands, marks_support, kind_of, Marks}
 
 pub told : (k : Kind) (ns : List ℕ) → Follows (examination k ns) (Row k ns) (Stands k ns)
-unfolding examination
 told scaffold ns = (Job.told).told (job_of ns)
 told support ns = (Support.told).told (support_of ns)
 
@@ -65,7 +64,7 @@ module _ (file : List ℕ) where
 
 -- a job that stands is marked as what it is
 pub stands_kind : (k : Kind) (ns rest : List ℕ) → length ns ≡ count k → Stands k ns → Narrow ns → kind_of (encode_all ns ++ rest) ≡ k
-unfolding job_of support_of Inside ranges geometry
+unfolding job_of support_of Inside ranges
 stands_kind scaffold ns rest l s w =
     unmarked (encode_all ns ++ rest)
     (λ e. let f = within_le 1 2 (get_or ns 0 0) (s.agrees.inside 1) in absurd (omega (arith, f.1, sym (first_number ns rest w (omega arith)) ∙ e)))

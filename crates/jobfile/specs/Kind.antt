@@ -1,7 +1,7 @@
 -- The two kinds of job, by their numbers: 25 of a scaffold, 13 of a support; and which of them a file is read as.
 -- Assumes nothing.
 use Rattle.std.specs.Prelude.{ℕ, Bool, cond, List, [], ◌∷◌, eqb}
-use Rattle.basis.specs.declared.Refusal.{Refusal}
+use Rattle.basis.specs.Refusal.{Examined}
 use Rattle.job.specs.Job.{job_of}
 use Rattle.job.specs.Examine.{examination as job_examination}
 use Rattle.job.specs.Rows as Job
@@ -22,7 +22,7 @@ count scaffold = 25
 count support = 13
 
 -- what is refused of them: 3, 4 and 5, or 3
-unfoldable pub examination : Kind → List ℕ → Refusal
+abbrev pub examination : Kind → List ℕ → Examined
 examination scaffold ns = job_examination (job_of ns)
 examination support ns = support_examination (support_of ns)
 

@@ -2,22 +2,18 @@
 -- Assumes nothing.
 use Rattle.std.specs.Prelude.{ℕ, refl, List, [], ◌∷◌, ◌++◌, set, replicate}
 use Rattle.basis.specs.Marked.{Row, row, Hold}
-use Rattle.basis.specs.Range.{field, lowest}
-use Rattle.basis.specs.Refusal.{unless, first}
-use Rattle.basis.specs.Writing.{room_refusal, written_or, written_values}
+use Rattle.basis.specs.Writing.{written_values}
 use Rattle.job.specs.Job as Job
 use Rattle.job.specs.JobJ.{numbers_J}
-use Rattle.job.specs.Ranges.{lb_stands, height_stands, shield_stands, geometry, loads, wind, ground, ranges, outside}
-use Rattle.job.specs.Examine.{examination as job_examination}
+use Rattle.job.specs.Ranges.{ranges, outside}
 use Rattle.support.specs.Support as Support
 use Rattle.support.specs.SupportS.{numbers_S}
-use Rattle.support.specs.Examine as Examine
 use Rattle.groups.specs.Encode.{groups, encode, encode_all}
 use Rattle.groups.specs.Decode.{last_group, extend, later_groups, limit, decode}
 use Rattle.groups.specs.Numbers.{extra, damage, values, value_of}
-use Rattle.jobfile.specs.Kind.{Kind, scaffold, support, examination, marks_support, kind_of}
-use Rattle.jobfile.specs.Read.{refusal_as, job_as, read_as, job_in, read_values}
-use Rattle.jobfile.specs.Write.{greatest_length, write_refusal, file_written}
+use Rattle.jobfile.specs.Kind.{Kind, scaffold, support, marks_support, kind_of}
+use Rattle.jobfile.specs.Read.{job_in, read_values}
+use Rattle.jobfile.specs.Write.{greatest_length, file_written}
 
 -- a job each of whose numbers takes as many bytes as its range lets it
 unfoldable pub longest : Kind → List ℕ
@@ -66,7 +62,7 @@ rows =
 
 -- on an `unfolding` line: all that reading and writing compute
 unfoldable pub files : Unit {0}
-unfolding encode groups encode_all job_in read_as refusal_as job_as kind_of marks_support value_of damage values extra decode later_groups last_group extend limit file_written written_or write_refusal room_refusal Job.job_of Job.numbers Support.support_of Support.numbers examination job_examination Examine.examination Examine.outside Examine.ranges outside lowest field ranges geometry loads wind ground lb_stands height_stands shield_stands unless first
+unfolding encode groups encode_all job_in kind_of marks_support value_of damage values extra decode later_groups last_group extend limit Job.job_of Job.numbers Support.support_of Support.numbers ranges outside
 files = tt
 
 pub marked : Hold rows

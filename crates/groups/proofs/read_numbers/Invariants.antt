@@ -1,10 +1,6 @@
--- The first i numbers are read, and what is left has the whole's answer. Assumes nothing.
-use Prim.Native.Nat.{◌-◌}
+-- The first numbers are read, and what is left has the whole's answer. Assumes nothing.
 use Rattle.groups.proofs.Reading.{SoFar}
 use Rattle.groups.proofs.read_numbers.Given as goal
 
-abbrev pub invariant-loop-i : goal.invariant-loop-i
-invariant-loop-i l = SoFar l.count l.file l.numbers l.i l.at
-
-abbrev pub decreases-loop-i : goal.decreases-loop-i
-decreases-loop-i l = l.count - l.i
+abbrev pub invariant-loop-number : goal.invariant-loop-number
+invariant-loop-number g l = SoFar g.row.N l.file l.number-items l.number-index l.at

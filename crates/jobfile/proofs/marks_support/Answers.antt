@@ -1,10 +1,10 @@
 -- `marks_support` meets its contract. Assumes nothing.
-use mathlib.Core.Path.{sym, ◌∙◌}
-use Rattle.jobfile.proofs.Reading.{marks_number, marks_malformed}
+use Rattle.std.proofs.Common.{sym}
+use Rattle.jobfile.proofs.Reading.{marks_number, marks_none}
 use Rattle.jobfile.proofs.marks_support.Goals as goal
 
-pub returns-in-Number : goal.returns-in-Number
-returns-in-Number c = marks_number _ (sym c.number_at.ensures ∙ c.in-Number.is)
+pub returns-in-Some : goal.returns-in-Some
+returns-in-Some c = marks_number _ (sym c.in-Some.ensures)
 
-pub returns-in-Malformed : goal.returns-in-Malformed
-returns-in-Malformed c = marks_malformed _ (sym c.number_at.ensures ∙ c.in-Malformed.is)
+pub returns-in-None : goal.returns-in-None
+returns-in-None c = marks_none _ (sym c.in-None.ensures)

@@ -1,22 +1,24 @@
--- `read_scaffold` meets its contract: the job is that of the file's numbers, and the refusal worked out is that of the file. Assumes nothing.
-use mathlib.Core.Path.{ap, ◌∙◌}
+-- `read_scaffold` meets its contract: what it reads is that of the file's numbers. Assumes nothing.
+use Rattle.std.proofs.Common.{◌≡◌, ◌∙◌, sym, ap, Ok, Err, rules}
+use Rattle.basis.proofs.Refusals.{first_answers, first_refuses}
 use Rattle.job.specs.Examine as Job
-use Rattle.jobfile.specs.Kind.{scaffold, examination}
-use Rattle.jobfile.specs.Read.{job_as}
-use Rattle.jobfile.specs.declared.ReadJob.TheVariants.{Scaffold}
-use Rattle.jobfile.proofs.Reading.{scaffold_read, read_refusal_lem, read_refused, read_done}
+use Rattle.jobfile.specs.Kind.{scaffold}
+use Rattle.jobfile.specs.declared.FileJob.TheVariants.{Scaffold}
+use Rattle.jobfile.proofs.Reading.{read_damaged, read_refused, read_done}
 use Rattle.jobfile.proofs.read_scaffold.Goals as goal
 
-pub returns-then-refusal-eq0 : goal.returns-then-refusal-eq0
-unfolding examination job_as
-returns-then-refusal-eq0 c =
-    let j = scaffold_read _ c.read_numbers-found.ensures c.from_numbers-j.ensures in
-    let r = read_refusal_lem scaffold _ c.read_numbers-found.ensures (c.examine.ensures ∙ ap Job.examination j) c.first_of-refusal.ensures in
-    ap Scaffold j ∙ read_done scaffold _ r c.if-refusal-eq0.true
+pub returns-in_err-numbers : goal.returns-in_err-numbers
+returns-in_err-numbers c =
+    let r : c.from_residual.result ≡ Err c.in_err-numbers.field-0.0 = search rules in
+    r ∙ read_damaged scaffold _ c.in_err-numbers.ensures
 
-pub returns-else-refusal-eq0 : goal.returns-else-refusal-eq0
-unfolding examination
-returns-else-refusal-eq0 c =
-    let j = scaffold_read _ c.read_numbers-found.ensures c.from_numbers-j.ensures in
-    let r = read_refusal_lem scaffold _ c.read_numbers-found.ensures (c.examine.ensures ∙ ap Job.examination j) c.first_of-refusal.ensures in
-    read_refused scaffold _ r c.if-refusal-eq0.false
+pub returns-in_err-try_into : goal.returns-in_err-try_into
+returns-in_err-try_into c =
+    let r : c.from_residual-in_err-try_into.result ≡ Err c.in_err-try_into.field-0.0 = search rules in
+    r ∙ read_refused scaffold _ c.in_ok-numbers.ensures (sym (first_refuses _ _ (sym c.in_err-try_into.ensures)) ∙ ap Job.examination c.from.ensures)
+
+pub returns : goal.returns
+returns c =
+    let f = first_answers _ _ (sym c.in_ok-try_into.ensures) in
+    let j : c.in_ok-try_into.field-0 ≡ c.from.result = cc (f.1) in
+    ap (λ x. Ok (Scaffold x)) (j ∙ c.from.ensures) ∙ read_done scaffold _ c.in_ok-numbers.ensures (sym f.0 ∙ ap Job.examination c.from.ensures)
