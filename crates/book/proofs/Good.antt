@@ -1,38 +1,40 @@
 -- A row is good just where it stands, and the lowest bad row is the first to which 3, 4 or 5 applies.
 -- Assumes nothing.
 use Prim.Native.Nat.{ℕ, ◌<◌}
-use mathlib.Core.Path.{◌≡◌, ap}
+use mathlib.Core.Path.{◌≡◌, refl}
 use mathlib.Core.Bool.{false}
 use mathlib.Core.List.{List}
 use mathlib.Core.Logic.{⊎_elim}
 use native.Mathlib.Nat.{zero-add}
 use native.Mathlib.Omega.{arith}
-use lib.Dec.{T, eqb→eq}
-use borrow.Author.Tests.{eq-eqb, ne_eqb}
-use Rattle.basis.specs.Refusal.{number}
+use lib.Dec.{T}
+use Rattle.std.specs.Prelude.{Ok, Err, is_ok}
+use Rattle.basis.specs.Refusal.{Examined, nothing}
 use Rattle.basis.specs.Rows.{Some}
 use Rattle.basis.proofs.Rows.{unrefused}
 use Rattle.basis.proofs.Searches.{first_fail_never, first_fail_fails, first_fail_passes, first_fail_is}
-use Rattle.basis.proofs.Tests.{holds}
 use Rattle.jobfile.specs.Kind.{scaffold, examination, Row, Stands}
 use Rattle.jobfile.proofs.BothKinds.{told}
 use Rattle.book.specs.Book.{row, good, good_at, first_bad}
 use Rattle.book.specs.Rows.{AllStand, FirstBad}
 
+-- an examination that is passed refuses nothing
+passed : (e : Examined) → T (is_ok e) → e ≡ nothing
+passed (Ok none) t = refl
+passed (Err r) t = absurd t
+
 module _ (ns : List ℕ) where
   good_stands : T (good ns) → Stands scaffold ns
   unfolding good
-  good_stands t = unrefused (told scaffold ns) (eqb→eq (number (examination scaffold ns)) 0 t)
+  good_stands t = unrefused (told scaffold ns) (passed (examination scaffold ns) t)
 
   stands_good : Stands scaffold ns → T (good ns)
   unfolding good
-  stands_good s = holds (eq-eqb (number (examination scaffold ns)) 0 (ap number ((told scaffold ns).none s)))
+  stands_good s = rw ((told scaffold ns).none s) tt
 
   bad_fails : Some (Row scaffold ns) → good ns ≡ false
   unfolding good
-  bad_fails b =
-      let e = (told scaffold ns).row b.0 b.1.0 b.1.1 in
-      ne_eqb (number (examination scaffold ns)) 0 (λ z. omega (arith, e.0, ap number e.1))
+  bad_fails b = rw (((told scaffold ns).row b.0 b.1.0 b.1.1).is) refl
 
   fails_bad : good ns ≡ false → Some (Row scaffold ns)
   fails_bad f = ⊎_elim (λ s. absurd (rw f at (stands_good s))) (λ b. b) (told scaffold ns).every

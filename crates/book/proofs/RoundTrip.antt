@@ -6,16 +6,16 @@ use mathlib.Core.List.{List, ◌++◌}
 use native.Mathlib.Omega.{arith}
 use lib.ListN.{length, take, drop, length-append}
 use lib.Seq.{take-append_seam, take_at, length-take-le}
-use Rattle.basis.specs.Refusal.{number}
-use Rattle.basis.specs.declared.Written.TheVariants.{Length}
+use Rattle.std.specs.Prelude.{Ok}
+use Rattle.basis.specs.Refusal.{nothing, first}
 use Rattle.basis.proofs.Rows.{unrefused}
-use Rattle.basis.proofs.Writing.{written_length}
 use Rattle.groups.specs.Encode.{groups, encode, encode_all}
 use Rattle.groups.specs.Decode.{Bytes}
 use Rattle.groups.proofs.Encode.{cap, encode_short}
 use Rattle.jobfile.specs.Kind.{scaffold, examination}
 use Rattle.jobfile.specs.Marked.{longest, files}
 use Rattle.jobfile.proofs.BothKinds.{told as job-told}
+use Rattle.basis.proofs.Refusals.{first_answers}
 use Rattle.jobfile.proofs.Sizes.{file_short}
 use Rattle.book.specs.Columns.{joined}
 use Rattle.book.specs.Book.{rows_most, greatest_length, row_count, columns, book_of, row}
@@ -36,22 +36,23 @@ pub holding : (n : ℕ) (rows : List ℕ) → Accepted n rows → Holds (book_of
 holding n rows a = record { is = refl; few = a.few; long = a.long; narrow = stand_narrow n rows a.long a.stand }
 
 -- what reading answers and leaves where it is not refused
-pub read_answer : (book out : List ℕ) (n : ℕ) (rows : List ℕ) → Reads book out n rows → (rows_read book out ≡ Length n) × (rows_left book out ≡ rows ++ drop (25 * n) out)
+pub read_answer : (book out : List ℕ) (n : ℕ) (rows : List ℕ) → Reads book out n rows → (rows_read book out ≡ Ok n) × (rows_left book out ≡ rows ++ drop (25 * n) out)
 read_answer book out n rows a =
     let h = a.holds in
-    rw (held_count book n rows h, held_rows book n rows h) at (read_done book out (ap number (read_none book out n rows a)))
+    rw (held_count book n rows h, held_rows book n rows h) at (read_done book out (read_none book out n rows a))
 
 rows_back : (n : ℕ) (rows out : List ℕ) → Accepted n rows → n ≤ row_count out
-    → (rows_read (book_of n rows) out ≡ Length n) × (rows_left (book_of n rows) out ≡ rows ++ drop (25 * n) out)
+    → (rows_read (book_of n rows) out ≡ Ok n) × (rows_left (book_of n rows) out ≡ rows ++ drop (25 * n) out)
 rows_back n rows out a l = read_answer (book_of n rows) out n rows (record { holds = holding n rows a; stand = a.stand; room = l })
 
 -- and where it answers a number of rows
-pub read_reads : (book out : List ℕ) (n : ℕ) → Bytes book → rows_read book out ≡ Length n → (rows : List ℕ) × Reads book out n rows
+pub read_reads : (book out : List ℕ) (n : ℕ) → Bytes book → rows_read book out ≡ Ok n → (rows : List ℕ) × Reads book out n rows
 unfolding rows_read
 read_reads book out n w e =
-    let a = written_length (read_refusal book out) (count_in book) n e in
+    let a = first_answers (read_refusal book out) (Ok (count_in book)) e in
+    let m : count_in book ≡ n = cc (a.1) in
     let u = unrefused (told.reading book out w) a.0 in
-    let c : u.0 ≡ n = sym (held_count book u.0 u.1.0 u.1.1.holds) ∙ a.1 in
+    let c : u.0 ≡ n = sym (held_count book u.0 u.1.0 u.1.1.holds) ∙ m in
     (u.1.0, rw c at u.1.1)
 
 pub rows_read_lem : (book out : List ℕ) (n : ℕ) (rows : List ℕ) → Reads book out n rows → take (25 * n) (rows_left book out) ≡ rows
@@ -60,7 +61,7 @@ rows_read_lem book out n rows a = rw (read_answer book out n rows a).1 (take_at 
 reads_accepted : (book out : List ℕ) (n : ℕ) (rows : List ℕ) → Reads book out n rows → Accepted n rows
 reads_accepted book out n rows a = record { few = a.holds.few; long = a.holds.long; stand = a.stand }
 
-book_back : (book out : List ℕ) (n : ℕ) → Bytes book → rows_read book out ≡ Length n →
+book_back : (book out : List ℕ) (n : ℕ) → Bytes book → rows_read book out ≡ Ok n →
     (let rows = take (25 * n) (rows_left book out) in
     Accepted n rows × (book_of n rows ≡ book) × (rows_left book out ≡ rows ++ drop (25 * n) out))
 book_back book out n w e =
@@ -71,8 +72,8 @@ book_back book out n w e =
 
 -- ---- Writing
 
-pub write_answer : (rows out : List ℕ) → Writes rows out → (book_written rows out ≡ Length (length (whole_book rows))) × (book_left rows out ≡ whole_book rows ++ drop (length (whole_book rows)) out)
-write_answer rows out a = write_done rows out (ap number (write_none rows out a))
+pub write_answer : (rows out : List ℕ) → Writes rows out → (book_written rows out ≡ Ok (length (whole_book rows))) × (book_left rows out ≡ whole_book rows ++ drop (length (whole_book rows)) out)
+write_answer rows out a = write_done rows out (write_none rows out a)
 
 -- the whole rows of those that are lent
 whole_accepted : (rows : List ℕ) → row_count rows ≤ rows_most → AllStand (row_count rows) rows → Accepted (row_count rows) (take (25 * row_count rows) rows)
@@ -83,13 +84,15 @@ whole_accepted rows l s =
       stand = λ r k. rw (row_take (row_count rows) rows r k) (s r k);
     }
 
-written_reads : (rows out back : List ℕ) (n : ℕ) → book_written rows out ≡ Length n → row_count rows ≤ row_count back →
+written_reads : (rows out back : List ℕ) (n : ℕ) → book_written rows out ≡ Ok n → row_count rows ≤ row_count back →
     (let book = take n (book_left rows out) in
-    (rows_read book back ≡ Length (row_count rows)) × (rows_left book back ≡ take (25 * row_count rows) rows ++ drop (25 * row_count rows) back))
+    (rows_read book back ≡ Ok (row_count rows)) × (rows_left book back ≡ take (25 * row_count rows) rows ++ drop (25 * row_count rows) back))
 written_reads rows out back n e l =
-    let a = written_length (write_refusal rows out) (length (whole_book rows)) n (unfold book_written in e) in
+    let f : first (write_refusal rows out) (Ok (length (whole_book rows))) ≡ Ok n = unfold book_written in e in
+    let a = first_answers (write_refusal rows out) (Ok (length (whole_book rows))) f in
+    let m : length (whole_book rows) ≡ n = cc (a.1) in
     let u = unrefused (told.writing rows out) a.0 in
-    let b : take n (book_left rows out) ≡ book_of (row_count rows) (take (25 * row_count rows) rows) = rw ((write_answer rows out u).1, ← a.1, take-append_seam) (whole rows) in
+    let b : take n (book_left rows out) ≡ book_of (row_count rows) (take (25 * row_count rows) rows) = rw ((write_answer rows out u).1, ← m, take-append_seam) (whole rows) in
     rw b (rows_back (row_count rows) (take (25 * row_count rows) rows) back (whole_accepted rows u.few u.stand) l)
   where
     whole : (rows : List ℕ) → whole_book rows ≡ book_of (row_count rows) (take (25 * row_count rows) rows)
@@ -101,15 +104,15 @@ unfolding row_count
 rows_counted n rows e = omega (arith, e)
 
 pub rewritten : (n : ℕ) (rows out : List ℕ) → Accepted n rows → length (book_of n rows) ≤ length out
-    → (book_written rows out ≡ Length (length (book_of n rows))) × (book_left rows out ≡ book_of n rows ++ drop (length (book_of n rows)) out)
+    → (book_written rows out ≡ Ok (length (book_of n rows))) × (book_left rows out ≡ book_of n rows ++ drop (length (book_of n rows)) out)
 rewritten n rows out a l =
     let c = rows_counted n rows a.long in
     let b : whole_book rows ≡ book_of n rows = unfold whole_book in rw c in
     rw b at (write_answer rows out (record { few = rw c a.few; stand = rw c a.stand; room = rw b l }))
 
-read_writes : (book out back : List ℕ) (n : ℕ) → Bytes book → rows_read book out ≡ Length n → length book ≤ length back →
+read_writes : (book out back : List ℕ) (n : ℕ) → Bytes book → rows_read book out ≡ Ok n → length book ≤ length back →
     (let rows = take (25 * n) (rows_left book out) in
-    (book_written rows back ≡ Length (length book)) × (book_left rows back ≡ book ++ drop (length book) back))
+    (book_written rows back ≡ Ok (length book)) × (book_left rows back ≡ book ++ drop (length book) back))
 read_writes book out back n w e l =
     let u = read_reads book out n w e in
     let rows = u.0 in
@@ -157,7 +160,7 @@ longest_row : (r : ℕ) → r < rows_most → row all_longest r ≡ longest scaf
 unfolding row all_longest longest
 longest_row r l = joined_part (λ r. longest scaffold) 25 (λ i. refl) rows_most r l
 
-longest_examined : number (examination scaffold (longest scaffold)) ≡ 0
+longest_examined : examination scaffold (longest scaffold) ≡ nothing
 unfolding longest files
 longest_examined = refl
 
@@ -182,7 +185,7 @@ pub whole_most : (rows : List ℕ) → row_count rows ≤ rows_most → AllStand
 unfolding whole_book
 whole_most rows l s = omega (arith, ap length (book_take (row_count rows) rows), at_most (row_count rows) (take (25 * row_count rows) rows) (whole_accepted rows l s))
 
-enough : (rows out : List ℕ) → row_count rows ≤ rows_most → AllStand (row_count rows) rows → greatest_length ≤ length out → book_written rows out ≡ Length (length (book_of (row_count rows) rows))
+enough : (rows out : List ℕ) → row_count rows ≤ rows_most → AllStand (row_count rows) rows → greatest_length ≤ length out → book_written rows out ≡ Ok (length (book_of (row_count rows) rows))
 unfolding whole_book
 enough rows out l s h = (write_answer rows out (record { few = l; stand = s; room = omega (arith, whole_most rows l s) })).0
 

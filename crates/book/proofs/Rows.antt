@@ -1,27 +1,28 @@
 -- What is refused of a book, and of rows, is what the table says: row by row, and where none applies.
 -- Assumes nothing.
+use Rattle.std.specs.Prelude as Std
+use Rattle.std.specs.Prelude.{Ok, Err}
 use Prim.Native.Nat.{ℕ, suc, ◌*◌, ◌≤◌, ◌<◌}
 use mathlib.Core.Path.{◌≡◌, ◌∙◌, refl, sym, ap}
 use mathlib.Core.List.{List, [], ◌∷◌, append-nil}
 use mathlib.Core.Logic.{◌⊎◌, inl, inr, ⊎_elim}
 use native.Mathlib.Omega.{arith}
-use lib.Dec.{leb, eqb, lit<}
+use lib.Dec.{leb, eqb}
 use lib.ListN.{length, drop}
 use borrow.Author.Tests.{le-leb, lt-leb, leb-true, leb-false, eq-eqb, ne_eqb, eqb-true, eqb-false}
-use Rattle.basis.specs.Refusal.{number, nothing, too_short, book_damaged, book_count, book_row, unless, first}
-use Rattle.basis.specs.Rows.{Some}
+use Rattle.basis.specs.Refusal.{Examined, nothing, unless, first}
+use Rattle.basis.specs.declared.Refusal.TheVariants.{Damaged, TooShort, BookDamaged, BookCount, BookRow}
+use Rattle.basis.specs.Rows.{Some, Refused}
 use Rattle.basis.specs.Writing.{room_refusal}
-use Rattle.basis.specs.declared.Refusal.{Refusal}
-use Rattle.basis.proofs.Refusals.{first_rest, first_here, unless_passes, unless_fails}
+use Rattle.basis.proofs.Rows.{refused_is}
 use Rattle.basis.proofs.Tests.{cases}
 use Rattle.basis.proofs.Searches.{first_fail_most}
 use Rattle.basis.proofs.Writing.{room_nothing, room_short}
 use Rattle.groups.specs.Encode.{encode_all}
 use Rattle.groups.specs.Decode.{Bytes, decode}
 use Rattle.groups.specs.Numbers.{damage, value_of}
-use Rattle.groups.specs.declared.Decoded.TheVariants.{Number}
-use Rattle.groups.specs.Rows.{Damaged, Starts}
-use Rattle.groups.specs.Rows as Groups
+use Rattle.groups.specs.Rows.{Starts}
+use Rattle.groups.specs.Rows as Table
 use Rattle.groups.proofs.Rows as Groups-told
 use Rattle.groups.proofs.Damaged.{damaged_unread, unread_damaged}
 use Rattle.groups.proofs.Decode.{decoded, decode_within}
@@ -37,26 +38,19 @@ use Rattle.book.proofs.Narrow.{turned_narrow}
 
 -- ---- 10 of a count, 11 of rows
 
-few : (n : ℕ) → n ≤ rows_most → count_refusal n ≡ nothing
-unfolding count_refusal
-few n l = unless_passes (leb n rows_most) (book_count n) nothing (le-leb n rows_most l)
-
 -- what is refused where the count is not, and where it is
-pub past_count : (n : ℕ) (rest : Refusal) → n ≤ rows_most → first (count_refusal n) rest ≡ rest
-past_count n rest l = rw (few n l) (sym (first_rest nothing rest refl))
+pub past_count : (n : ℕ) (rest : Examined) → n ≤ rows_most → first (count_refusal n) rest ≡ rest
+past_count n rest l = rw (le-leb n rows_most l) refl
 
-pub many : (n : ℕ) (rest : Refusal) → rows_most < n → first (count_refusal n) rest ≡ book_count n
-unfolding count_refusal
-many n rest l = rw (unless_fails (leb n rows_most) (book_count n) nothing (lt-leb n rows_most l)) (sym (first_here (book_count n) rest (λ z. omega arith)))
+pub many : (n : ℕ) (rest : Examined) → rows_most < n → first (count_refusal n) rest ≡ Err (BookCount n)
+many n rest l = rw (lt-leb n rows_most l) refl
 
 -- a row that is bad, and that none is
-bad_refused : (n : ℕ) (rows : List ℕ) (r : ℕ) → FirstBad n rows r → bad_row n (first_bad n rows) ≡ book_row r
-unfolding bad_row
-bad_refused n rows r b = rw (first_bad_lem n rows r b) (unless_fails (eqb r n) (book_row r) nothing (ne_eqb r n (λ e. omega (arith, b.within))))
+bad_refused : (n : ℕ) (rows : List ℕ) (r : ℕ) → FirstBad n rows r → bad_row n (first_bad n rows) ≡ Err (BookRow r)
+bad_refused n rows r b = rw (first_bad_lem n rows r b, ne_eqb r n (λ e. omega (arith, b.within))) refl
 
 none_bad : (n : ℕ) (rows : List ℕ) → AllStand n rows → bad_row n (first_bad n rows) ≡ nothing
-unfolding bad_row
-none_bad n rows s = rw (all_good n rows s) (unless_passes (eqb n n) (book_row n) nothing (eq-eqb n n refl))
+none_bad n rows s = rw (all_good n rows s, eq-eqb n n refl) refl
 
 every_row : (n : ℕ) (rows : List ℕ) → AllStand n rows ⊎ ((r : ℕ) × FirstBad n rows r)
 unfolding first_bad
@@ -67,13 +61,12 @@ every_row n rows =
 -- ---- Reading
 
 -- 9 of a refusal of the bytes
-damage_is : (refusal : Refusal) (m p : ℕ) → 0 < m → refusal ≡ record { number = m; place = p } → book_damage refusal ≡ book_damaged p
-unfolding book_damage
-damage_is refusal m p l e = rw e (unless_fails (eqb m 0) (book_damaged p) nothing (ne_eqb m 0 (λ z. omega arith)))
+damage_is : {examined : Examined} {m p : ℕ} → Refused examined m p → book_damage examined ≡ Err (BookDamaged p)
+damage_is r = rw (r.is, r.place_is) refl
 
 module _ (book out : List ℕ) where
   -- the parts of what is refused, one after the other
-  too_many : (n : ℕ) (rest : List ℕ) → Starts book (n ∷ []) rest → rows_most < n → read_refusal book out ≡ book_count n
+  too_many : (n : ℕ) (rest : List ℕ) → Starts book (n ∷ []) rest → rows_most < n → read_refusal book out ≡ Err (BookCount n)
   unfolding read_refusal
   too_many n rest s l = rw (starts_count book rest n s) (many n _ l)
 
@@ -81,72 +74,67 @@ module _ (book out : List ℕ) where
   unfolding read_refusal
   few_passes l = past_count (count_in book) _ l
 
-  damaged_refused : (p : ℕ) → count_in book ≤ rows_most → damage_in book ≡ book_damaged p → read_refusal book out ≡ book_damaged p
-  damaged_refused p l e = few_passes l ∙ rw e (sym (first_here (book_damaged p) _ (λ z. omega arith)))
+  damaged_refused : (p : ℕ) → count_in book ≤ rows_most → damage_in book ≡ Err (BookDamaged p) → read_refusal book out ≡ Err (BookDamaged p)
+  damaged_refused p l e = few_passes l ∙ rw e refl
 
-  pub no_count : Damaged book → read_refusal book out ≡ book_damaged 0
+  pub no_count : Table.Damaged book → read_refusal book out ≡ Err (BookDamaged 0)
   unfolding damage_in
   no_count d =
       let u = damaged_unread book d in
       let z : count_in book ≡ 0 = unfold count_in in unfold value_of in rw u in
-      let f : damage (numbers_due book) 0 book ≡ record { number = 6; place = 0 } = unfold numbers_due in damage_here (25 * count_in book) 0 book u in
-      damaged_refused 0 (omega (arith, z)) (damage_is (damage (numbers_due book) 0 book) 6 0 (lit< tt) f)
+      let f : damage (numbers_due book) 0 book ≡ Err (Damaged 0) = unfold numbers_due in damage_here (25 * count_in book) 0 book u in
+      damaged_refused 0 (omega (arith, z)) (damage_is (refused_is (Damaged 0) f))
 
-  damaged : (n : ℕ) (rest : List ℕ) → Starts book (n ∷ []) rest → n ≤ rows_most → (w : Bytes book) (m p : ℕ) → Groups.Row (suc (25 * n)) book m p → read_refusal book out ≡ book_damaged p
+  damaged : (n : ℕ) (rest : List ℕ) → Starts book (n ∷ []) rest → n ≤ rows_most → (w : Bytes book) (m p : ℕ) → Table.Row (suc (25 * n)) book m p → read_refusal book out ≡ Err (BookDamaged p)
   unfolding damage_in numbers_due
   damaged n rest s l w m p r =
       let c = starts_count book rest n s in
-      let e = ((Groups-told.told).told (suc (25 * n)) book w).row m p r in
-      damaged_refused p (omega (arith, c)) (rw c (damage_is (damage (suc (25 * n)) 0 book) m p e.0 e.1))
+      damaged_refused p (omega (arith, c)) (rw c (damage_is (((Groups-told.told).told (suc (25 * n)) book w).row m p r)))
 
   -- of the book of some rows: 11, then 8
   module _ (n : ℕ) (rows : List ℕ) (h : Holds book n rows) where
     held_refused : read_refusal book out ≡ rows_refusal n (first_bad n rows) (row_count out)
-    unfolding damage_in book_damage
+    unfolding damage_in
     held_refused =
         let c = held_count book n rows h in
-        few_passes (omega (arith, c, h.few))
-        ∙ rw (c, held_rows book n rows h, held_undamaged book n rows h)
-        (sym (first_rest (unless (eqb 0 0) (book_damaged 0) nothing) _ (ap number (unless_passes (eqb 0 0) (book_damaged 0) nothing refl))))
+        few_passes (omega (arith, c, h.few)) ∙ rw (c, held_rows book n rows h, held_undamaged book n rows h) refl
 
-    row_bad : (r : ℕ) → FirstBad n rows r → read_refusal book out ≡ book_row r
-    unfolding rows_refusal
-    row_bad r b = held_refused ∙ rw (bad_refused n rows r b) (sym (first_here (book_row r) _ (λ z. omega arith)))
+    row_bad : (r : ℕ) → FirstBad n rows r → read_refusal book out ≡ Err (BookRow r)
+    row_bad r b = held_refused ∙ ap (λ (e : Examined). first e (unless (leb n (row_count out)) (TooShort n) nothing)) (bad_refused n rows r b)
 
-    all_stand : AllStand n rows → read_refusal book out ≡ unless (leb n (row_count out)) (too_short n) nothing
-    unfolding rows_refusal
-    all_stand s = held_refused ∙ rw (none_bad n rows s) (sym (first_rest nothing _ refl))
+    all_stand : AllStand n rows → read_refusal book out ≡ unless (leb n (row_count out)) (TooShort n) nothing
+    all_stand s = held_refused ∙ ap (λ (e : Examined). first e (unless (leb n (row_count out)) (TooShort n) nothing)) (none_bad n rows s)
 
-    short : AllStand n rows → row_count out < n → read_refusal book out ≡ too_short n
-    short s l = all_stand s ∙ unless_fails (leb n (row_count out)) (too_short n) nothing (lt-leb n (row_count out) l)
+    short : AllStand n rows → row_count out < n → read_refusal book out ≡ Err (TooShort n)
+    short s l = all_stand s ∙ rw (lt-leb n (row_count out) l) refl
 
     room : AllStand n rows → n ≤ row_count out → read_refusal book out ≡ nothing
-    room s l = all_stand s ∙ unless_passes (leb n (row_count out)) (too_short n) nothing (le-leb n (row_count out) l)
+    room s l = all_stand s ∙ rw (le-leb n (row_count out) l) refl
 
-read_row : (book out : List ℕ) → Bytes book → (n p : ℕ) → ReadRow book out n p → (0 < n) × (read_refusal book out ≡ record { number = n; place = p })
-read_row book out w n p (ReadRow.no_count d) = (lit< tt, no_count book out d)
-read_row book out w n p (ReadRow.count c rest s l) = (lit< tt, too_many book out c rest s l)
-read_row book out w n p (ReadRow.damaged c rest s l m q r) = (lit< tt, damaged book out c rest s l w m q r)
-read_row book out w n p (ReadRow.row_bad c rows h r b) = (lit< tt, row_bad book out c rows h r b)
-read_row book out w n p (ReadRow.short c rows h s l) = (lit< tt, short book out c rows h s l)
+read_row : (book out : List ℕ) → Bytes book → (n p : ℕ) → ReadRow book out n p → Refused (read_refusal book out) n p
+read_row book out w n p (ReadRow.no_count d) = refused_is (BookDamaged 0) (no_count book out d)
+read_row book out w n p (ReadRow.count c rest s l) = refused_is (BookCount c) (too_many book out c rest s l)
+read_row book out w n p (ReadRow.damaged c rest s l m q r) = refused_is (BookDamaged q) (damaged book out c rest s l w m q r)
+read_row book out w n p (ReadRow.row_bad c rows h r b) = refused_is (BookRow r) (row_bad book out c rows h r b)
+read_row book out w n p (ReadRow.short c rows h s l) = refused_is (TooShort c) (short book out c rows h s l)
 
 pub read_none : (book out : List ℕ) (n : ℕ) (rows : List ℕ) → Reads book out n rows → read_refusal book out ≡ nothing
 read_none book out n rows a = room book out n rows a.holds a.stand a.room
 
 -- a count, where one stands
-started : (book : List ℕ) → Bytes book → (v k : ℕ) → decode book ≡ Number v k → Starts book (v ∷ []) (drop k book)
+started : (book : List ℕ) → Bytes book → (v k : ℕ) → decode book ≡ Std.Some (v, k) → Starts book (v ∷ []) (drop k book)
 unfolding encode_all
 started book w v k e = record { is = rw append-nil (number_front v k book w e); narrow = ((decode_within book v k e).value, tt) }
 
 -- the book of the numbers that stand in it
-holding : (book : List ℕ) (n : ℕ) (ns : List ℕ) → n ≤ rows_most → count_in book ≡ n → Groups.Holds (suc (25 * n)) book ns → Holds book n (rows_of n (drop 1 ns))
+holding : (book : List ℕ) (n : ℕ) (ns : List ℕ) → n ≤ rows_most → count_in book ≡ n → Table.Holds (suc (25 * n)) book ns → Holds book n (rows_of n (drop 1 ns))
 holding book n [] l c h = absurd (omega (arith, h.long))
 holding book n (m ∷ ns) l c h =
     let e : length ns ≡ 25 * n = omega (arith, h.long) in
     let f : m ≡ n = sym (counted h) ∙ c in
     record { is = h.is ∙ same f e; few = l; long = rows_long n ns; narrow = unfold rows_of in turned_narrow n 25 ns h.narrow.1 }
   where
-    counted : Groups.Holds (suc (25 * n)) book (m ∷ ns) → count_in book ≡ m
+    counted : Table.Holds (suc (25 * n)) book (m ∷ ns) → count_in book ≡ m
     counted h = starts_count book (encode_all ns) m (record { is = h.is ∙ unfold encode_all in rw append-nil; narrow = (h.narrow.0, tt) })
 
     same : m ≡ n → length ns ≡ 25 * n → encode_all (m ∷ ns) ≡ book_of n (rows_of n ns)
@@ -187,13 +175,14 @@ module _ (rows out : List ℕ) where
   rows_refused l = past_count (row_count rows) _ l
 
   rows_stand : row_count rows ≤ rows_most → AllStand (row_count rows) rows → write_refusal rows out ≡ room_refusal (whole_book rows) out
-  rows_stand l s = rows_refused l ∙ rw (none_bad (row_count rows) rows s) (sym (first_rest nothing _ refl))
+  rows_stand l s = rows_refused l ∙ ap (λ (e : Examined). first e (room_refusal (whole_book rows) out)) (none_bad (row_count rows) rows s)
 
-  write_row : (n p : ℕ) → WriteRow rows out n p → (0 < n) × (write_refusal rows out ≡ record { number = n; place = p })
+  write_row : (n p : ℕ) → WriteRow rows out n p → Refused (write_refusal rows out) n p
   unfolding write_refusal
-  write_row n p (WriteRow.count l) = (lit< tt, many (row_count rows) _ l)
-  write_row n p (WriteRow.row_bad l r b) = (lit< tt, rows_refused l ∙ rw (bad_refused (row_count rows) rows r b) (sym (first_here (book_row r) _ (λ z. omega arith))))
-  write_row n p (WriteRow.short l s k) = (lit< tt, rows_stand l s ∙ room_short (whole_book rows) out k)
+  write_row n p (WriteRow.count l) = refused_is (BookCount (row_count rows)) (many (row_count rows) _ l)
+  write_row n p (WriteRow.row_bad l r b) =
+      refused_is (BookRow r) (rows_refused l ∙ ap (λ (e : Examined). first e (room_refusal (whole_book rows) out)) (bad_refused (row_count rows) rows r b))
+  write_row n p (WriteRow.short l s k) = refused_is (TooShort (length (whole_book rows))) (rows_stand l s ∙ room_short (whole_book rows) out k)
 
   pub write_none : Writes rows out → write_refusal rows out ≡ nothing
   write_none a = rows_stand a.few a.stand ∙ room_nothing (whole_book rows) out a.room

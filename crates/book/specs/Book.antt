@@ -1,9 +1,9 @@
 -- Document 02, request 3: a book is a row count (0 to 200) and then all first numbers, all second numbers, to the 25th, each in the job file's groups. Rows stand one after the other, 25 numbers each.
 -- Assumes nothing.
-use Rattle.std.specs.Prelude.{ℕ, ◌*◌, ◌/◌, Bool, List, ◌∷◌, leb, eqb, length, take, drop}
-use Rattle.basis.specs.Refusal.{number, nothing, book_count, book_row, unless}
+use Rattle.std.specs.Prelude.{ℕ, ◌*◌, ◌/◌, Bool, List, ◌∷◌, leb, eqb, is_ok, length, take, drop}
+use Rattle.basis.specs.Refusal.{Examined, nothing, unless}
 use Rattle.basis.specs.Search.{first_fail}
-use Rattle.basis.specs.declared.Refusal.{Refusal}
+use Rattle.basis.specs.declared.Refusal.TheVariants.{BookCount, BookRow}
 use Rattle.groups.specs.Encode.{encode_all}
 use Rattle.jobfile.specs.Kind.{scaffold, examination}
 use Rattle.book.specs.Columns.{turned}
@@ -37,7 +37,7 @@ row rows r = take 25 (drop (25 * r) rows)
 
 -- neither 3 nor 4 nor 5 refuses a scaffold's 25 numbers
 unfoldable pub good : List ℕ → Bool
-good ns = eqb (number (examination scaffold ns)) 0
+good ns = is_ok (examination scaffold ns)
 
 unfoldable pub good_at : List ℕ → ℕ → Bool
 good_at rows r = good (row rows r)
@@ -47,9 +47,9 @@ unfoldable pub first_bad : ℕ → List ℕ → ℕ
 first_bad n rows = first_fail (good_at rows) 0 n
 
 -- 11 of that row
-unfoldable pub bad_row : ℕ → ℕ → Refusal
-bad_row n bad = unless (eqb bad n) (book_row bad) nothing
+abbrev pub bad_row : ℕ → ℕ → Examined
+bad_row n bad = unless (eqb bad n) (BookRow bad) nothing
 
 -- 10 of a count above 200
-unfoldable pub count_refusal : ℕ → Refusal
-count_refusal n = unless (leb n rows_most) (book_count n) nothing
+abbrev pub count_refusal : ℕ → Examined
+count_refusal n = unless (leb n rows_most) (BookCount n) nothing

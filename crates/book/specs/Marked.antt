@@ -3,12 +3,12 @@
 use Rattle.std.specs.Prelude.{ℕ, List, [], ◌∷◌, ◌++◌, set, replicate}
 use Rattle.basis.specs.Marked.{Row, row as case}
 use Rattle.basis.specs.Search.{first_fail}
-use Rattle.basis.specs.Writing.{left_or, written_values}
+use Rattle.basis.specs.Writing.{written_values}
 use Rattle.job.specs.JobJ.{numbers_J}
 use Rattle.jobfile.specs.Marked.{files}
 use Rattle.book.specs.Columns.{series, joined, across, turned}
-use Rattle.book.specs.Book.{row_count, columns, rows_of, book_of, row, good, good_at, first_bad, bad_row, count_refusal}
-use Rattle.book.specs.Read.{count_in, numbers_due, columns_in, rows_in, book_damage, damage_in, rows_refusal, read_refusal, rows_read, rows_left}
+use Rattle.book.specs.Book.{row_count, columns, rows_of, book_of, row, good, good_at, first_bad}
+use Rattle.book.specs.Read.{count_in, numbers_due, columns_in, rows_in, damage_in, read_refusal, rows_read, rows_left}
 use Rattle.book.specs.Write.{whole_book, write_refusal, book_written, book_left}
 
 -- a single row, unlike J in every number
@@ -66,5 +66,5 @@ rows =
 
 -- on an `unfolding` line: all that reading and writing books compute
 unfoldable pub books : Unit {0}
-unfolding files series joined across turned row_count columns rows_of book_of row good good_at first_bad first_fail bad_row count_refusal count_in numbers_due columns_in rows_in book_damage damage_in rows_refusal read_refusal rows_read rows_left left_or whole_book write_refusal book_written book_left
+unfolding files series joined across turned row_count columns rows_of book_of row good good_at first_bad first_fail count_in numbers_due columns_in rows_in damage_in read_refusal rows_read rows_left whole_book write_refusal book_written book_left
 books = tt

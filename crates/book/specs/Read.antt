@@ -1,10 +1,10 @@
 -- Reading a book: refusals 10, 9, 11 and 8 in rows, in that order, or its rows. A damaged count is 9 at 0: it has no value above 200.
 -- Assumes nothing.
-use Rattle.std.specs.Prelude.{ℕ, suc, ◌*◌, List, leb, eqb, drop}
-use Rattle.basis.specs.Refusal.{number, place, nothing, too_short, book_damaged, unless, first}
+use Rattle.std.specs.Prelude.{ℕ, suc, ◌*◌, List, leb, drop, Result, Ok, Err}
+use Rattle.basis.specs.Refusal.{place, Examined, nothing, unless, first}
 use Rattle.basis.specs.Writing.{written_or, left_or}
 use Rattle.basis.specs.declared.Refusal.{Refusal}
-use Rattle.basis.specs.declared.Written.{Written}
+use Rattle.basis.specs.declared.Refusal.TheVariants.{TooShort, BookDamaged}
 use Rattle.groups.specs.Decode.{decode}
 use Rattle.groups.specs.Numbers.{damage, values, value_of}
 use Rattle.book.specs.Book.{row_count, rows_of, first_bad, bad_row, count_refusal}
@@ -25,24 +25,25 @@ unfoldable pub rows_in : List ℕ → List ℕ
 rows_in book = rows_of (count_in book) (columns_in book)
 
 -- what damages a job file or follows its numbers is 9 in a book
-unfoldable pub book_damage : Refusal → Refusal
-book_damage refusal = unless (eqb (number refusal) 0) (book_damaged (place refusal)) nothing
+abbrev pub book_damage : Examined → Examined
+book_damage (Ok none) = nothing
+book_damage (Err refusal) = Err (BookDamaged (place refusal))
 
 -- 9, of a damaged number or of the bytes after the last
-unfoldable pub damage_in : List ℕ → Refusal
+unfoldable pub damage_in : List ℕ → Examined
 damage_in book = book_damage (damage (numbers_due book) 0 book)
 
 -- 11 of the lowest bad row of n, then 8 of a buffer with so many rows
-unfoldable pub rows_refusal : ℕ → ℕ → ℕ → Refusal
-rows_refusal n bad room = first (bad_row n bad) (unless (leb n room) (too_short n) nothing)
+abbrev pub rows_refusal : ℕ → ℕ → ℕ → Examined
+rows_refusal n bad room = first (bad_row n bad) (unless (leb n room) (TooShort n) nothing)
 
 -- what is refused of a book and the rows lent: 10 as soon as the count is read, then 9, 11 and 8
-unfoldable pub read_refusal : List ℕ → List ℕ → Refusal
+unfoldable pub read_refusal : List ℕ → List ℕ → Examined
 read_refusal book out =
     first (count_refusal (count_in book)) (first (damage_in book) (rows_refusal (count_in book) (first_bad (count_in book) (rows_in book)) (row_count out)))
 
 -- the number of rows where nothing is refused, else the refusal
-unfoldable pub rows_read : List ℕ → List ℕ → Written
+unfoldable pub rows_read : List ℕ → List ℕ → Result ℕ Refusal
 rows_read book out = written_or (read_refusal book out) (count_in book)
 
 -- the rows lent afterwards: as they were where the answer is a refusal, else only the book's are written

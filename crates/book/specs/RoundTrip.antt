@@ -1,7 +1,6 @@
 -- What is certain of books, of the definitions by which `read` and `write` are specified: each gives back what the other had.
 -- Assumes nothing.
-use Rattle.std.specs.Prelude.{ℕ, ◌*◌, ◌≤◌, ◌≡◌, List, ◌++◌, length, take, drop}
-use Rattle.basis.specs.declared.Written.TheVariants.{Length}
+use Rattle.std.specs.Prelude.{ℕ, ◌*◌, ◌≤◌, ◌≡◌, List, ◌++◌, length, take, drop, Ok}
 use Rattle.groups.specs.Decode.{Bytes}
 use Rattle.book.specs.Book.{rows_most, greatest_length, row_count, book_of}
 use Rattle.book.specs.Read.{rows_read, rows_left}
@@ -17,22 +16,22 @@ pub record Accepted (n : ℕ) (rows : List ℕ) : Type 0 where
 pub record RoundTrip : Type 0 where
   -- the book of accepted rows reads back as those rows
   pub rows_back : (n : ℕ) (rows out : List ℕ) → Accepted n rows → n ≤ row_count out
-      → (rows_read (book_of n rows) out ≡ Length n) × (rows_left (book_of n rows) out ≡ rows ++ drop (25 * n) out)
+      → (rows_read (book_of n rows) out ≡ Ok n) × (rows_left (book_of n rows) out ≡ rows ++ drop (25 * n) out)
   -- a book that is read is the book of the rows read, which are accepted
-  pub book_back : (book out : List ℕ) (n : ℕ) → Bytes book → rows_read book out ≡ Length n →
+  pub book_back : (book out : List ℕ) (n : ℕ) → Bytes book → rows_read book out ≡ Ok n →
       (let rows = take (25 * n) (rows_left book out) in
       Accepted n rows × (book_of n rows ≡ book) × (rows_left book out ≡ rows ++ drop (25 * n) out))
   -- where writing answers a length, reading that many bytes into rows with room gives the whole rows back
-  pub written_reads : (rows out back : List ℕ) (n : ℕ) → book_written rows out ≡ Length n → row_count rows ≤ row_count back →
+  pub written_reads : (rows out back : List ℕ) (n : ℕ) → book_written rows out ≡ Ok n → row_count rows ≤ row_count back →
       (let book = take n (book_left rows out) in
-      (rows_read book back ≡ Length (row_count rows)) × (rows_left book back ≡ take (25 * row_count rows) rows ++ drop (25 * row_count rows) back))
+      (rows_read book back ≡ Ok (row_count rows)) × (rows_left book back ≡ take (25 * row_count rows) rows ++ drop (25 * row_count rows) back))
   -- where reading answers n rows, writing them into a buffer with room puts those bytes back
-  pub read_writes : (book out back : List ℕ) (n : ℕ) → Bytes book → rows_read book out ≡ Length n → length book ≤ length back →
+  pub read_writes : (book out back : List ℕ) (n : ℕ) → Bytes book → rows_read book out ≡ Ok n → length book ≤ length back →
       (let rows = take (25 * n) (rows_left book out) in
-      (book_written rows back ≡ Length (length book)) × (book_left rows back ≡ book ++ drop (length book) back))
+      (book_written rows back ≡ Ok (length book)) × (book_left rows back ≡ book ++ drop (length book) back))
   -- different lists of rows have different books
   pub one_list : (n m : ℕ) (rows others : List ℕ) → Accepted n rows → Accepted m others → book_of n rows ≡ book_of m others → (n ≡ m) × (rows ≡ others)
   -- no book is longer than the greatest length; there is one of it; and a buffer of that length has room for each
   pub at_most : (n : ℕ) (rows : List ℕ) → Accepted n rows → length (book_of n rows) ≤ greatest_length
   pub reached : (rows : List ℕ) × Accepted rows_most rows × (length (book_of rows_most rows) ≡ greatest_length)
-  pub room : (rows out : List ℕ) → row_count rows ≤ rows_most → AllStand (row_count rows) rows → greatest_length ≤ length out → book_written rows out ≡ Length (length (book_of (row_count rows) rows))
+  pub room : (rows out : List ℕ) → row_count rows ≤ rows_most → AllStand (row_count rows) rows → greatest_length ≤ length out → book_written rows out ≡ Ok (length (book_of (row_count rows) rows))

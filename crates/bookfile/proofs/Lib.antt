@@ -2,5 +2,7 @@ pub mod Numbers
 pub mod Steps
 pub mod Filling
 pub mod Pieces
+pub mod Flat
+pub mod Parts
 pub mod Reading
 pub mod Writing

@@ -1,5 +1,6 @@
 -- Laws of places: they add up, the numbers stand at them, and none is beyond the end.
 -- Assumes nothing.
+use Rattle.std.specs.Prelude.{Some, None}
 use Prim.Native.Nat.{ℕ, zero, suc, ◌+◌, ◌-◌, ◌*◌, ◌≤◌, ◌<◌}
 use mathlib.Core.Path.{◌≡◌, ◌∙◌, refl, sym, ap}
 use mathlib.Core.List.{List}
@@ -10,11 +11,10 @@ use lib.Dec.{T, leb, ltb→lt}
 use lib.ListN.{length, drop, get_or, length-drop, length-map}
 use lib.Seq.{drop-drop}
 use borrow.Author.Tests.{leb-true, leb-false}
-use Rattle.basis.specs.Refusal.{number}
+use Rattle.basis.specs.Refusal.{nothing}
 use Rattle.basis.proofs.Tests.{cases, both_left, both_right}
 use Rattle.groups.specs.Decode.{decode}
 use Rattle.groups.specs.Numbers.{damage, values, bytes_of, offset_after}
-use Rattle.groups.specs.declared.Decoded.TheVariants.{Number, Malformed}
 use Rattle.groups.proofs.Decode.{decoded, decode_end, decode_one, decode_within}
 use Rattle.groups.proofs.Numbers.{differ}
 use Rattle.groups.proofs.Places.{values_at, offset_add, offset_stays, damage_add}
@@ -63,7 +63,7 @@ row_placed book k n r h =
     (λ c a b. value_placed book k (25 * n) (n * c + r) (let m = below n 25 r c h (omega arith) in omega (arith, m))))
 
 -- no number reaches beyond the end
-pub number_ends : (book : List ℕ) (at v k : ℕ) → decode (drop at book) ≡ Number v k → at + k ≤ length book
+pub number_ends : (book : List ℕ) (at v k : ℕ) → decode (drop at book) ≡ Some (v, k) → at + k ≤ length book
 number_ends book at v k e =
     cases (leb (length book) at) (λ t. differ (sym (decode_end book at (leb-true (length book) at t)) ∙ e))
     (λ t. omega (arith, (decode_within (drop at book) v k e).ends, length-drop at book, leb-false (length book) at t))
@@ -95,30 +95,30 @@ single_placed book at (suc n) h t =
     byte p u v = unfold next_at in unfold bytes_of in rw (decode_one book p u v)
 
 -- at a damaged number the place stays
-stays : (book : List ℕ) (at m : ℕ) → decode (drop at book) ≡ Malformed → place_of book at m ≡ at
+stays : (book : List ℕ) (at m : ℕ) → decode (drop at book) ≡ None → place_of book at m ≡ at
 unfolding place_of
 stays book at m e = rw (offset_stays m (drop at book) e, add-zero)
 
-pub place_stays : (book : List ℕ) (k j n at : ℕ) → at ≡ place_of book k j → decode (drop at book) ≡ Malformed → j ≤ n → at ≡ place_of book k n
+pub place_stays : (book : List ℕ) (k j n at : ℕ) → at ≡ place_of book k j → decode (drop at book) ≡ None → j ≤ n → at ≡ place_of book k n
 place_stays book k j n at p e h =
     let s : j + (n - j) ≡ n = omega arith in
     sym (stays book at (n - j) e) ∙ ap (λ (x : ℕ). place_of book x (n - j)) p ∙ place_add book k j (n - j) ∙ ap (place_of book k) s
 
 -- one number on
-pub place_on : (book : List ℕ) (k j at v m : ℕ) → at ≡ place_of book k j → decode (drop at book) ≡ Number v m → at + m ≡ place_of book k (j + 1)
+pub place_on : (book : List ℕ) (k j at v m : ℕ) → at ≡ place_of book k j → decode (drop at book) ≡ Some (v, m) → at + m ≡ place_of book k (j + 1)
 place_on book k j at v m p e = here ∙ ap (next_at book) p ∙ place_next book k j
   where
     here : at + m ≡ next_at book at
     here = unfold next_at in unfold bytes_of in rw e
 
 -- where nothing is refused of some numbers none is damaged
-pub undamaged_sound : (book : List ℕ) (k n : ℕ) → number (damage n k (drop k book)) ≡ 0 → Sound book k n
+pub undamaged_sound : (book : List ℕ) (k n : ℕ) → damage n k (drop k book) ≡ nothing → Sound book k n
 unfolding place_of
 undamaged_sound book k n z j h e =
     let s : n ≡ j + suc (n - suc j) = omega arith in
     let d = damage_add j (suc (n - suc j)) k (drop k book) (omega arith) in
     let f = damage_here (n - suc j) (k + offset_after j (drop k book)) (drop (offset_after j (drop k book)) (drop k book)) (ap decode (drop-drop (offset_after j (drop k book)) k book) ∙ e) in
-    omega (arith, rw s at z, ap number d, ap number f)
+    let g = sym (rw s at z) ∙ d ∙ f in absurd (cc)
 
 -- so is none of a column's
 pub sound_column : (book : List ℕ) (k n c at : ℕ) → Sound book k (25 * n) → at ≡ place_of book k (n * c) → c < 25 → Sound book at n

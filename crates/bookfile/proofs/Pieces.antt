@@ -69,10 +69,6 @@ pub columns_pieces : (n : ℕ) (rows : List ℕ) → encode_all (columns n rows)
 unfolding columns turned column_bytes
 columns_pieces n rows = all_joined (across 25 n rows) 25 0
 
-pub entry_is : (rows : List ℕ) (c r : ℕ) → encode (get_or rows (25 * r + c) 0) ≡ entry_bytes rows c r
-unfolding entry_bytes
-entry_is rows c r = refl
-
 -- the book's length, and the book written in its two parts
 pub book_length : (n : ℕ) (rows : List ℕ) → length (book_of n rows) ≡ length (encode n) + length (encode_all (columns n rows))
 unfolding book_of encode_all

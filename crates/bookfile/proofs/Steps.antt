@@ -1,42 +1,48 @@
 -- Laws of the reader's functions: a step from a number to the next, arrays filled from the front, and rows at 25 places.
 -- Assumes nothing.
+use Rattle.std.specs.Prelude.{Some, None, Err, unwrap_or}
 use Prim.Native.Nat.{ℕ, zero, suc, ◌+◌, ◌-◌, ◌*◌, ◌%◌, ◌≤◌, ◌<◌}
 use mathlib.Core.Path.{◌≡◌, ◌∙◌, refl, sym, ap}
 use mathlib.Core.Bool.{Bool, true, false, ◌&&◌}
 use mathlib.Core.List.{List, [], ◌∷◌, map, append-nil}
-use native.Mathlib.Nat.{add-zero}
+use native.Mathlib.Nat.{add-zero, mul-zero}
 use native.Mathlib.Numerals.{add-one}
 use native.Mathlib.Omega.{arith}
 use lib.Dec.{ltb, leb, eqb}
-use lib.ListN.{length, take, drop, get_or, set, length-map, drop_of_length-le}
-use lib.Seq.{drop-drop, length-take-le, get_or-append-add, get_or-drop}
-use Rattle.basis.specs.Refusal.{damaged}
+use lib.ListN.{length, take, drop, get_or, set, length-map, length-take, drop_of_length-le, replicate, get_or-append}
+use lib.Seq.{drop-drop, length-take-le, get_or-append-add, get_or-drop, get_or-take}
+use Rattle.basis.specs.declared.Refusal.TheVariants.{Damaged, BookRow}
+use Rattle.basis.specs.Refusal.{nothing}
 use Rattle.basis.specs.Search.{first_fail}
-use borrow.Author.Tests.{leb-true, leb-false, lt-ltb}
+use borrow.Author.Tests.{leb-true, leb-false, lt-ltb, eq-eqb, ne_eqb}
 use Rattle.basis.proofs.Tests.{cases}
 use Rattle.basis.proofs.Searches.{first_fail_found, first_fail_next, first_fail_end}
 use Rattle.groups.specs.Decode.{last_group, extend, limit, decode}
 use Rattle.groups.specs.Numbers.{extra, damage, values, value_of, bytes_of}
-use Rattle.groups.specs.declared.Decoded.TheVariants.{Number, Malformed}
-use Rattle.groups.proofs.Decode.{decode_end, decode_one, decode_more, later_end, later_last}
+use Rattle.groups.proofs.Decode.{decoded, decode_end, decode_one, decode_more, later_end, later_last}
 use Rattle.groups.proofs.Front.{front, front_suc, front_all}
 use Rattle.groups.proofs.Reading.{damage_next, damage_here}
-use Rattle.book.specs.Book.{row, good, good_at, first_bad}
-use Rattle.book.proofs.Columns.{series_at, series_long, part_at}
-use Rattle.book.proofs.Narrow as Narrow
+use Rattle.book.specs.Book.{good, good_at, first_bad, bad_row}
+use Rattle.book.proofs.Columns.{series_at, series_long}
 use Rattle.bookfile.specs.Places.{single, value_at, next_at, step_at, place_of, starts, row_at, moved, moved_by, row_after, good_after, first_bad_at}
-use Rattle.bookfile.proofs.Numbers.{value_placed, place_add, place_next}
+use Rattle.book.specs.Columns.{series}
+use Rattle.bookfile.proofs.Numbers.{place_none, value_placed, number_ends, place_add, place_next}
 
-pub step_number : (book : List ℕ) (at v k : ℕ) → decode (drop at book) ≡ Number v k → record { value = v; next = at + k } ≡ step_at book at
+pub step_number : (book : List ℕ) (at v k : ℕ) → decode (drop at book) ≡ Some (v, k) → record { value = v; next = at + k } ≡ step_at book at
 unfolding step_at value_at next_at value_of bytes_of
 step_number book at v k e = rw e
 
-pub step_damaged : (book : List ℕ) (at : ℕ) → decode (drop at book) ≡ Malformed → record { value = 0; next = at } ≡ step_at book at
-unfolding step_at value_at next_at value_of bytes_of
-step_damaged book at e = rw (e, add-zero)
+-- 0 and no bytes of a damaged one
+module _ (book : List ℕ) (at : ℕ) {p : ℕ × ℕ} (e : p ≡ unwrap_or (decode (drop at book)) (0, 0)) where
+  pub step_is : record { value = p.0; next = at + p.1 } ≡ step_at book at
+  unfolding step_at value_at next_at value_of bytes_of
+  step_is = rw e (decoded (decode (drop at book)) (λ v k f. rw f refl) (λ f. rw f refl))
+
+  pub step_short : p.1 ≤ length book - at
+  step_short = rw e (decoded (decode (drop at book)) (λ v k f. rw f (omega (arith, number_ends book at v k f))) (λ f. rw f (omega arith)))
 
 -- where a number stands: at its first byte, at its second, and of two bytes
-module _ (book : List ℕ) (at : ℕ) (s : decode (drop at book) ≡ Malformed → ⊥) where
+module _ (book : List ℕ) (at : ℕ) (s : decode (drop at book) ≡ None → ⊥) where
   pub stands_here : at < length book
   stands_here = cases (leb (length book) at) (λ t. absurd (s (decode_end book at (leb-true (length book) at t)))) (leb-false (length book) at)
 
@@ -46,7 +52,7 @@ module _ (book : List ℕ) (at : ℕ) (s : decode (drop at book) ≡ Malformed �
       cases (leb (length book) (at + 1))
       (λ t. absurd (s (decode_more book at stands_here l ∙ ap (λ d. limit (extend (get_or book at 0) d)) (later_end 3 book (at + 1) (leb-true (length book) (at + 1) t))))) (leb-false (length book) (at + 1))
 
-  stands_two : 128 ≤ get_or book at 0 → get_or book (at + 1) 0 < 128 → decode (drop at book) ≡ Number (get_or book (at + 1) 0 * 128 + get_or book at 0 % 128) 2
+  stands_two : 128 ≤ get_or book at 0 → get_or book (at + 1) 0 < 128 → decode (drop at book) ≡ Some (get_or book (at + 1) 0 * 128 + get_or book at 0 % 128, 2)
   unfolding extend limit last_group
   stands_two l u =
       let e = decode_more book at stands_here l ∙ ap (λ d. limit (extend (get_or book at 0) d)) (later_last 3 book (at + 1) (stands_next l) u) in
@@ -73,27 +79,30 @@ place_skip book k n c at e =
     let s : n * (c + 1) ≡ n * c + n = omega arith in
     rw s (ap (λ (x : ℕ). place_of book x n) e ∙ place_add book k (n * c) n)
 
--- one byte more
-pub single_next : (book : List ℕ) (at n : ℕ) {a b : Bool} → a ≡ single book at n → b ≡ (a && ltb (get_or book (at + n) 0) 128) → b ≡ single book at (n + 1)
+-- one byte more of those from a place on
+pub single_next : (book : List ℕ) (at m i : ℕ) {a : Bool} → i < length (take m (drop at book)) → a ≡ single book at i
+    → (a && ltb (get_or (take m (drop at book)) i 0) 128) ≡ single book at (i + 1)
 unfolding single
-single_next book at n e f = rw add-one (f ∙ rw e)
+single_next book at m i h e =
+    let l : i < m = omega (arith, length-take m (drop at book)) in
+    rw (add-one, get_or-take m (drop at book) i 0 l, get_or-drop at book i 0, e)
 
 -- what is refused of the numbers left is what is refused of the whole
-module _ (book : List ℕ) (count at left place : ℕ) (e : damage count at (drop at book) ≡ damage left place (drop place book)) where
-  pub damage_ends : left ≤ 0 → extra place (drop place book) ≡ damage count at (drop at book)
+module _ (book : List ℕ) (count at done place : ℕ) (e : damage count at (drop at book) ≡ damage (count - done) place (drop place book)) where
+  pub damage_ends : count ≤ done → extra place (drop place book) ≡ damage count at (drop at book)
   unfolding damage
-  damage_ends h = let z : left ≡ 0 = omega arith in sym (rw z at e)
+  damage_ends h = let z : count - done ≡ 0 = omega arith in sym (rw z at e)
 
-  pub damage_stops : 0 < left → decode (drop place book) ≡ Malformed → damaged place ≡ damage count at (drop at book)
+  pub damage_stops : done < count → decode (drop place book) ≡ None → Err (Damaged place) ≡ damage count at (drop at book)
   damage_stops h d =
-      let z : left ≡ suc (left - 1) = omega arith in
-      sym (rw z at e ∙ damage_here (left - 1) place (drop place book) d)
+      let z : count - done ≡ suc (count - (done + 1)) = omega arith in
+      sym (rw z at e ∙ damage_here (count - (done + 1)) place (drop place book) d)
 
-  pub damage_goes : (v k : ℕ) → 0 < left → decode (drop place book) ≡ Number v k
-      → damage count at (drop at book) ≡ damage (left - 1) (place + k) (drop (place + k) book)
+  pub damage_goes : (v k : ℕ) → done < count → decode (drop place book) ≡ Some (v, k)
+      → damage count at (drop at book) ≡ damage (count - (done + 1)) (place + k) (drop (place + k) book)
   damage_goes v k h d =
-      let z : left ≡ suc (left - 1) = omega arith in
-      rw z at e ∙ damage_next (left - 1) place v k (drop place book) d ∙ rw drop-drop
+      let z : count - done ≡ suc (count - (done + 1)) = omega arith in
+      rw z at e ∙ damage_next (count - (done + 1)) place v k (drop place book) d ∙ rw drop-drop
 
 -- ---- Arrays of 25, filled from the front
 
@@ -121,6 +130,17 @@ pub starts_long : (book : List ℕ) (k n : ℕ) → length (starts book k n) ≡
 unfolding starts
 starts_long book k n = series_long _ 0 25
 
+-- all at the first, and the last of those found
+pub starts_none : (book : List ℕ) (k n : ℕ) → replicate 25 k ≡ front (replicate 25 k) (starts book k n) 1
+unfolding starts series
+starts_none book k n = let e : place_of book k (n * 0) ≡ k = rw mul-zero (sym (place_none book k)) in rw e refl
+
+pub starts_last : (book : List ℕ) (k n c : ℕ) {places : List ℕ} → places ≡ front (replicate 25 k) (starts book k n) (c + 1) → c < 25 → get_or places c 0 ≡ place_of book k (n * c)
+starts_last book k n c e h =
+    let s = starts book k n in
+    let l : c < length (take (c + 1) s) = omega (arith, length-take (c + 1) s, starts_long book k n) in
+    ap (λ (t : List ℕ). get_or t c 0) e ∙ get_or-append (take (c + 1) s) (drop (c + 1) (replicate 25 k)) 0 c l ∙ get_or-take (c + 1) s c 0 (omega arith) ∙ starts_at book k n c h
+
 map_at : (f : ℕ → ℕ) (l : List ℕ) (c : ℕ) → c < length l → get_or (map f l) c 0 ≡ f (get_or l c 0)
 map_at f [] c h = absurd (omega arith)
 map_at f (x ∷ l) zero h = refl
@@ -144,15 +164,14 @@ module _ (book places : List ℕ) (e : length places ≡ 25) where
   unfolding moved step_at
   moved_at c h = map_at (next_at book) places c (omega (arith, e))
 
--- row r of rows that have it
-pub taken_long : (rows : List ℕ) (r : ℕ) → 25 * r + 25 ≤ length rows → length (row rows r) ≡ 25
-taken_long rows r h = Narrow.row_long (r + 1) rows r (omega arith) (omega arith)
-
-pub taken_at : (rows : List ℕ) (r c : ℕ) → c < 25 → get_or (row rows r) c 0 ≡ get_or rows (25 * r + c) 0
-unfolding row
-taken_at rows r c h = part_at rows 25 (25 * r) c h
-
 -- ---- The lowest bad row
+
+-- what is refused of it, where it is k
+pub row_bad : {n r k : ℕ} → r < n → r ≡ k → Err (BookRow r) ≡ bad_row n k
+row_bad {n} {r} h e = let f = ne_eqb r n (λ z. omega arith) in rw (← e, f) refl
+
+pub rows_good : {n k : ℕ} → n ≡ k → nothing ≡ bad_row n k
+rows_good {n} e = rw (← e, eq-eqb n n refl) refl
 
 -- the first r rows are good, and the next stands at these places
 pub record Scan (book places at : List ℕ) (n r : ℕ) : Type 0 where
@@ -190,7 +209,3 @@ module _ (book places at : List ℕ) (n r : ℕ) (s : Scan book places at n r) w
 pub first_bad_none : (rows : List ℕ) (n : ℕ) → first_bad n rows ≡ first_fail (good_at rows) 0 (n - 0)
 unfolding first_bad
 first_bad_none rows n = let e : n ≡ n - 0 = omega arith in ap (first_fail (good_at rows) 0) e
-
-pub good_at_lem : (rows : List ℕ) (r : ℕ) {t : List ℕ} {b : Bool} → t ≡ row rows r → b ≡ good t → b ≡ good_at rows r
-unfolding good_at
-good_at_lem rows r e f = f ∙ ap good e

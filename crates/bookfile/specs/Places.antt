@@ -1,10 +1,11 @@
 -- Where the numbers of some bytes stand, and what stands at a place, as the code goes down the rows; no promise speaks of this.
 -- Assumes nothing.
-use Rattle.std.specs.Prelude.{ℕ, zero, suc, ◌+◌, ◌*◌, ◌<◌, Bool, true, ◌&&◌, ◌≡◌, List, map, ltb, length, drop, get_or}
+use Rattle.std.specs.Prelude.{ℕ, zero, suc, ◌+◌, ◌*◌, ◌<◌, Bool, true, ◌&&◌, ◌≡◌, List, map, ltb, length, drop, get_or, None, Result, Ok, Err}
+use Rattle.basis.specs.Refusal.{Examined}
 use Rattle.basis.specs.Search.{first_fail}
+use Rattle.basis.specs.declared.Refusal.TheVariants.{Damaged}
 use Rattle.groups.specs.Decode.{decode}
-use Rattle.groups.specs.Numbers.{value_of, bytes_of, offset_after}
-use Rattle.groups.specs.declared.Decoded.TheVariants.{Malformed}
+use Rattle.groups.specs.Numbers.{value_of, bytes_of, offset_after, extra}
 use Rattle.book.specs.Columns.{series}
 use Rattle.book.specs.Book.{good}
 use Rattle.bookfile.specs.declared.places.Step.{Step}
@@ -28,9 +29,19 @@ single book at (suc n) = single book at n && ltb (get_or book (at + n) 0) 128
 unfoldable pub place_of : List ℕ → ℕ → ℕ → ℕ
 place_of book k j = k + offset_after j (drop k book)
 
+-- where a walk over some numbers ended: after them, or at the first that is damaged
+abbrev pub place_in : Result ℕ ℕ → ℕ
+place_in (Ok place) = place
+place_in (Err place) = place
+
+-- and what is refused then: what follows, or the damage
+abbrev pub walk_damage : List ℕ → Result ℕ ℕ → Examined
+walk_damage book (Ok place) = extra place (drop place book)
+walk_damage book (Err place) = Err (Damaged place)
+
 -- none of the n numbers that start at k is damaged
 abbrev pub Sound : List ℕ → ℕ → ℕ → Type 0
-Sound book k n = (j : ℕ) → j < n → decode (drop (place_of book k j) book) ≡ Malformed → ⊥
+Sound book k n = (j : ℕ) → j < n → decode (drop (place_of book k j) book) ≡ None → ⊥
 
 -- the places of the first numbers of 25 columns of n numbers, which start at k
 unfoldable pub starts : List ℕ → ℕ → ℕ → List ℕ

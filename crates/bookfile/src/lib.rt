@@ -3,18 +3,14 @@
 
 ghost use Rattle.std.specs.Prelude.{◌≡◌};
 ghost use Rattle.groups.specs.Decode.{decode};
-ghost use Rattle.groups.specs.declared.Decoded.TheVariants.{Number};
-ghost use Rattle.book.specs.Read.{book_damage, rows_refusal, rows_read, rows_left};
+ghost use Rattle.book.specs.Read.{book_damage, rows_read, rows_left};
 ghost use Rattle.book.specs.Write.{book_written, book_left};
 
 use crate::columns::put_book;
-use crate::places::{column_starts, last_damage};
-use crate::rows::{first_bad_at, first_bad_of, put_columns};
-use basis::{
-    BOOK_COUNT, BOOK_DAMAGED, BOOK_ROW, NOTHING, Refusal, TOO_SHORT, Written, first_of,
-    refuse_unless,
-};
-use groups::{Decoded, group_count, number_at, row_length};
+use crate::places::Columns;
+use crate::rows::examine_rows;
+use basis::{Refusal, ensure};
+use groups::{group_count, number_at, numbers_length};
 
 mod columns;
 mod places;
@@ -29,87 +25,58 @@ pub const GREATEST_LENGTH: usize = 8402;
 pub const ROW: usize = 25;
 
 // What damages a job file or follows its numbers is 9 in a book.
-#[tactic(auto, unfolding(book::specs::Read::book_damage))]
-fn book_damage(refusal: Refusal) -> Refusal
-    ensures { result ≡ book_damage refusal }
+fn book_damage(examined: Result<(), Refusal>) -> Result<(), Refusal>
+    ensures { result ≡ book_damage examined }
 {
-    refuse_unless(refusal.number == 0, BOOK_DAMAGED, refusal.place, NOTHING)
-}
-
-// 11 of the lowest bad row of n, then 8 of so many rows lent.
-#[tactic(auto, unfolding(book::specs::Read::rows_refusal, book::specs::Book::bad_row))]
-fn rows_refusal(n: usize, bad: usize, room: usize) -> Refusal
-    ensures { result ≡ rows_refusal n bad room }
-{
-    let short = refuse_unless(n <= room, TOO_SHORT, n as u64, NOTHING);
-    let wrong = refuse_unless(bad == n, BOOK_ROW, bad as u64, NOTHING);
-    first_of(wrong, short)
+    examined.map_err(|refusal| Refusal::BookDamaged(refusal.place()))
 }
 
 // Reads the rows of a book that begins with a count of n in k bytes.
-fn read_counted(book: &[u8], n: u64, k: usize, rows: &mut [u32]) -> Written
-    requires { decode book.now ≡ Number n k }
+fn read_counted(book: &[u8], n: u32, k: usize, rows: &mut [u32]) -> Result<usize, Refusal>
+    requires { decode book.now ≡ Some (n, k) }
     ensures returned { result ≡ rows_read book.now rows.old }
     ensures buffer { rows.new ≡ rows_left book.now rows.old }
 {
-    if (ROWS_MOST as u64) < n {
-        return Written::Refused(Refusal {
-            number: BOOK_COUNT,
-            place: n,
-        });
-    }
     let count = n as usize;
-    let places = column_starts(book, k, count);
+    ensure(count <= ROWS_MOST, Refusal::BookCount(count as u64))?;
+    let columns = Columns {
+        book,
+        start: k,
+        count,
+    };
+    let places = columns.starts();
     // Where an earlier number is damaged, the last column's place stays at it.
-    let damage = book_damage(last_damage(book, count, places[24]));
-    if damage.number != 0 {
-        return Written::Refused(damage);
-    }
-    let bad = first_bad_at(book, count, places);
-    let unfit = rows_refusal(count, bad, rows.len() / ROW);
-    if unfit.number != 0 {
-        return Written::Refused(unfit);
-    }
-    put_columns(book, count, k, rows);
-    Written::Length(count)
+    book_damage(columns.last_damage(places[24]))?;
+    columns.examine(places)?;
+    let room = rows.len() / ROW;
+    ensure(count <= room, Refusal::TooShort(count as u64))?;
+    columns.put(rows);
+    Ok(count)
 }
 
 // Reads the rows of a book into rows that were lent, which stay as they are where it is refused or its rows do not fit.
-pub fn read(book: &[u8], rows: &mut [u32]) -> Written
+pub fn read(book: &[u8], rows: &mut [u32]) -> Result<usize, Refusal>
     ensures returned { result ≡ rows_read book.now rows.old }
     ensures buffer { rows.new ≡ rows_left book.now rows.old }
 {
     match number_at(book, 0) {
-        Decoded::Number(n, k) => read_counted(book, n, k, rows),
-        Decoded::Malformed => Written::Refused(Refusal {
-            number: BOOK_DAMAGED,
-            place: 0,
-        }),
+        Some((n, k)) => read_counted(book, n, k, rows),
+        None => Err(Refusal::BookDamaged(0)),
     }
 }
 
 // Writes the book of the whole rows at the front of a buffer, which stays as it is where they are refused or it does not fit.
-pub fn write(rows: &[u32], out: &mut [u8]) -> Written
+pub fn write(rows: &[u32], out: &mut [u8]) -> Result<usize, Refusal>
     ensures returned { result ≡ book_written rows.now out.old }
     ensures buffer { out.new ≡ book_left rows.now out.old }
 {
-    let n = rows.len() / ROW;
-    if ROWS_MOST < n {
-        return Written::Refused(Refusal {
-            number: BOOK_COUNT,
-            place: n as u64,
-        });
-    }
-    let bad = first_bad_of(rows, n);
-    let wrong = refuse_unless(bad == n, BOOK_ROW, bad as u64, NOTHING);
+    let (whole, _) = rows.as_chunks::<ROW>();
+    let n = whole.len();
+    ensure(n <= ROWS_MOST, Refusal::BookCount(n as u64))?;
+    examine_rows(whole)?;
     let count = group_count(n as u32) as usize;
-    let needed = count + row_length(rows, ROW * n);
-    let room = out.len();
-    let short = refuse_unless(needed <= room, TOO_SHORT, needed as u64, NOTHING);
-    let refused = first_of(wrong, short);
-    if refused.number != 0 {
-        return Written::Refused(refused);
-    }
-    put_book(rows, n, out);
-    Written::Length(needed)
+    let needed = count + numbers_length(whole.as_flattened());
+    ensure(needed <= out.len(), Refusal::TooShort(needed as u64))?;
+    put_book(whole, out);
+    Ok(needed)
 }

@@ -2,53 +2,44 @@
 ghost use Rattle.std.specs.Prelude.{◌≡◌, ◌+◌, ◌≤◌, length, drop};
 ghost use Rattle.groups.specs.Decode.{decode};
 ghost use Rattle.groups.specs.Numbers.{damage};
-ghost use Rattle.groups.specs.declared.Decoded.TheVariants.{Malformed};
-ghost use Rattle.bookfile.specs.Places.{place_of, starts, single, step_at, row_at, moved};
+ghost use Rattle.bookfile.specs.Places.{place_of, place_in, walk_damage, starts, single, step_at, row_at, moved};
 
 use crate::ROW;
-use basis::{DAMAGED, Refusal, both_of};
-use groups::{Decoded, nothing_after, number_at};
+use basis::Refusal;
+use groups::{nothing_after, number_at};
 
 // A number and the place of the next.
-#[derive(Clone, Copy)]
+#[derive(Clone, Copy, Debug, PartialEq, Eq)]
 pub struct Step {
     pub value: u32,
     pub next: usize,
 }
 
-fn wide(b: u8) -> u32
-    ensures { result ≡ b }
-{
-    b as u32
-}
-
-// The number at a place and the place of the next: 0 and the same place where it is damaged.
+// The number at a place and the place of the next. A damaged one counts as 0, of no bytes: an Option would be opened 25 times a row where none is damaged any more.
 fn step_at(book: &[u8], at: usize) -> Step
     ensures { result ≡ step_at book.now at }
 {
-    match number_at(book, at) {
-        Decoded::Number(v, k) => Step {
-            value: v as u32,
-            next: at + k,
-        },
-        Decoded::Malformed => Step { value: 0, next: at },
+    let (value, k) = number_at(book, at).unwrap_or((0, 0));
+    Step {
+        value,
+        next: at + k,
     }
 }
 
 // The same where none is damaged: of one or two bytes, as most are, nothing has to be tested but where it ends.
 // requires: the reader has gone through the whole book and found no damage.
 pub fn sound_step(book: &[u8], at: usize) -> Step
-    requires { decode (drop at book.now) ≡ Malformed → ⊥ }
+    requires { decode (drop at book.now) ≡ None → ⊥ }
     ensures { result ≡ step_at book.now at }
 {
-    let a = wide(book[at]);
+    let a = u32::from(book[at]);
     if a < 128 {
         return Step {
             value: a,
             next: at + 1,
         };
     }
-    let b = wide(book[at + 1]);
+    let b = u32::from(book[at + 1]);
     if b < 128 {
         return Step {
             value: b * 128 + a % 128,
@@ -64,103 +55,80 @@ fn single_bytes(book: &[u8], at: usize, n: usize) -> bool
     ensures { result ≡ single book.now at n }
 {
     let mut so_far = true;
-    let mut i: usize = 0;
-    while i < n {
-        let place = at + i;
-        so_far = both_of(so_far, book[place] < 128);
-        i += 1;
+    for byte in &book[at..at + n] {
+        so_far &= *byte < 128;
     }
     so_far
 }
 
-// The place n numbers on, found one by one; at a damaged one it stays.
-fn skip_each(book: &[u8], n: usize, at: usize) -> usize
-    ensures { result ≡ place_of book.now at n }
+// The place n numbers on, found one by one, or that of the first that is damaged.
+fn walk(book: &[u8], n: usize, at: usize) -> Result<usize, usize>
+    ensures place { place_in result ≡ place_of book.now at n }
+    ensures damage { walk_damage book.now result ≡ damage n at (drop at book.now) }
 {
-    let mut done: usize = 0;
     let mut place = at;
-    while done < n {
-        match number_at(book, place) {
-            Decoded::Number(_, k) => {
-                place += k;
-            }
-            Decoded::Malformed => {
-                return place;
-            }
-        }
-        done += 1;
+    for _ in 0..n {
+        let (_, k) = number_at(book, place).ok_or(place)?;
+        place += k;
     }
-    place
+    Ok(place)
 }
 
-// The place n numbers on. Columns of small numbers are passed many bytes at a time.
+// The place n numbers on, at a damaged one that one's. Columns of small numbers are passed many bytes at a time.
 fn skip(book: &[u8], n: usize, at: usize) -> usize
     requires { at ≤ length book.now }
     ensures { result ≡ place_of book.now at n }
 {
-    if n <= book.len() - at {
-        if single_bytes(book, at, n) {
-            return at + n;
-        }
+    if n <= book.len() - at && single_bytes(book, at, n) {
+        return at + n;
     }
-    skip_each(book, n, at)
+    match walk(book, n, at) {
+        Ok(place) | Err(place) => place,
+    }
 }
 
-// The places at which 25 columns of n numbers start, the first at k.
-// requires: the count ends at k, so within the book.
-pub fn column_starts(book: &[u8], k: usize, n: usize) -> [usize; ROW]
-    requires { k ≤ length book.now }
-    ensures { result ≡ starts book.now k n }
-{
-    let mut places: [usize; ROW] = [0; ROW];
-    let mut c: usize = 0;
-    let mut at = k;
-    while c < 24 {
-        places[c] = at;
-        at = skip(book, n, at);
-        c += 1;
-    }
-    places[24] = at;
-    places
+// The columns of a book: 25 times count numbers, from a place on.
+#[derive(Clone, Copy)]
+pub struct Columns<'a> {
+    pub book: &'a [u8],
+    pub start: usize,
+    pub count: usize,
+    ghost within: { start ≤ length book.now },
+    ghost few: { count ≤ 200 },
 }
 
-// What is refused of a count of numbers from a place on, and of the bytes after them.
-pub fn last_damage(book: &[u8], count: usize, at: usize) -> Refusal
-    ensures { result ≡ damage count at (drop at book.now) }
-{
-    let mut left = count;
-    let mut place = at;
-    while 0 < left {
-        match number_at(book, place) {
-            Decoded::Number(_, k) => {
-                place += k;
-            }
-            Decoded::Malformed => {
-                return Refusal {
-                    number: DAMAGED,
-                    place: place as u64,
-                };
-            }
+impl Columns<'_> {
+    // The places at which they start.
+    pub fn starts(&self) -> [usize; ROW]
+        ensures { result ≡ starts self.now.book.now self.now.start self.now.count }
+    {
+        let mut places = [self.start; ROW];
+        for c in 0..ROW - 1 {
+            places[c + 1] = skip(self.book, self.count, places[c]);
         }
-        left -= 1;
+        places
     }
-    nothing_after(book, place)
+
+    // What is refused of one that starts at a place, and of the bytes after it.
+    pub fn last_damage(&self, at: usize) -> Result<(), Refusal>
+        ensures { result ≡ damage self.now.count at (drop at self.now.book.now) }
+    {
+        let walked = walk(self.book, self.count, at);
+        let place = walked.map_err(|place| Refusal::Damaged(place as u64))?;
+        nothing_after(self.book, place)
+    }
 }
 
 // The row at 25 places, which move on to the next.
-// requires: the places are an array of 25, whose length is not known behind a reference.
 pub fn next_row(book: &[u8], places: &mut [usize; ROW]) -> [u32; ROW]
-    requires { length places.old ≡ 25 }
     ensures returned { result ≡ row_at book.now places.old }
     ensures moving { places.new ≡ moved book.now places.old }
 {
-    let mut numbers: [u32; ROW] = [0; ROW];
-    let mut c: usize = 0;
-    while c < ROW {
+    let mut numbers = [0; ROW];
+    for c in 0..ROW {
         let step = step_at(book, places[c]);
         numbers[c] = step.value;
         places[c] = step.next;
-        c += 1;
     }
     numbers
 }

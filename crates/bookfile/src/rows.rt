@@ -1,95 +1,74 @@
 // The rows of a book, one after the other: the lowest that is bad, and their numbers in lent rows.
 ghost use Rattle.std.specs.Prelude.{◌≡◌, ◌++◌, ◌+◌, ◌*◌, ◌≤◌, ◌<◌, length, drop};
 ghost use Rattle.groups.specs.Numbers.{values};
-ghost use Rattle.book.specs.Book.{rows_of, row, good, first_bad};
+ghost use Rattle.book.specs.Book.{rows_of, good, first_bad, bad_row};
+ghost use Rattle.bookfile.specs.Pieces.{flat};
 ghost use Rattle.bookfile.specs.Places.{place_of, Sound, first_bad_at, PutColumn};
 
 use crate::ROW;
-use crate::places::{next_row, sound_step};
+use crate::places::{Columns, next_row, sound_step};
+use basis::Refusal;
+use job::Job;
 
 // Neither 3 nor 4 nor 5 refuses a scaffold's 25 numbers.
-#[tactic(auto, unfolding(book::specs::Book::good, jobfile::specs::Kind::examination))]
+#[tactic(auto, unfolding(book::specs::Book::good))]
 fn good_row(numbers: [u32; ROW]) -> bool
     ensures { result ≡ good numbers }
 {
-    let refusal = job::examine(job::from_numbers(numbers));
-    refusal.number == 0
+    Job::from(numbers).examine().is_ok()
 }
 
-// The lowest bad one of n rows whose columns start at 25 places: n where there is none.
-pub fn first_bad_at(book: &[u8], n: usize, places: [usize; ROW]) -> usize
-    ensures { result ≡ first_bad_at book.now places n }
-{
-    let mut at = places;
-    let mut row: usize = 0;
-    while row < n {
-        if !good_row(next_row(book, &mut at)) {
-            return row;
+impl Columns<'_> {
+    // Refuses the lowest bad row of columns that start at 25 places.
+    pub fn examine(&self, places: [usize; ROW]) -> Result<(), Refusal>
+        ensures { result ≡ bad_row self.now.count (first_bad_at self.now.book.now places self.now.count) }
+    {
+        let mut at = places;
+        for row in 0..self.count {
+            if !good_row(next_row(self.book, &mut at)) {
+                return Err(Refusal::BookRow(row as u64));
+            }
         }
-        row += 1;
+        Ok(())
     }
-    row
-}
 
-// Puts the n numbers of column c, which start at a place, into n rows, and gives the place after them.
-fn put_column(book: &[u8], n: usize, c: usize, at: usize, out: &mut [u32]) -> usize
-    requires { (25 * n ≤ length out.old) × (n ≤ 200) × (c < 25) × Sound book.now at n }
-    ensures returned { result ≡ place_of book.now at n }
-    ensures buffer { PutColumn n c (values n (drop at book.now)) out.old out.new }
-{
-    let mut place = at;
-    let mut row: usize = 0;
-    while row < n {
-        let step = sound_step(book, place);
-        let to = ROW * row + c;
-        out[to] = step.value;
-        place = step.next;
-        row += 1;
-    }
-    place
-}
-
-// Puts 25 columns of n numbers, which start at k, into n rows.
-// requires: the reader has compared the rows with those lent, the count with 200, and found no damage.
-pub fn put_columns(book: &[u8], n: usize, k: usize, out: &mut [u32])
-    requires { (25 * n ≤ length out.old) × (n ≤ 200) × Sound book.now k (25 * n) }
-    ensures { out.new ≡ rows_of n (values (25 * n) (drop k book.now)) ++ drop (25 * n) out.old }
-{
-    let mut c: usize = 0;
-    let mut at = k;
-    while c < ROW {
-        at = put_column(book, n, c, at, out);
-        c += 1;
-    }
-}
-
-// Row r of rows that have it.
-fn row_of(rows: &[u32], r: usize) -> [u32; ROW]
-    requires { 25 * r + 25 ≤ length rows.now }
-    ensures { result ≡ row rows.now r }
-{
-    let mut numbers: [u32; ROW] = [0; ROW];
-    let mut c: usize = 0;
-    while c < ROW {
-        let place = ROW * r + c;
-        numbers[c] = rows[place];
-        c += 1;
-    }
-    numbers
-}
-
-// The lowest bad row of n: n where there is none.
-// requires: the writer passes how many whole rows there are.
-pub fn first_bad_of(rows: &[u32], n: usize) -> usize
-    requires { 25 * n ≤ length rows.now }
-    ensures { result ≡ first_bad n rows.now }
-{
-    let mut at: usize = 0;
-    while at < n {
-        if !good_row(row_of(rows, at)) {
-            return at;
+    // Puts the numbers of column c, which start at a place, into as many rows, and gives the place after them.
+    fn put_column(&self, c: usize, at: usize, out: &mut [u32]) -> usize
+        requires { (25 * self.now.count ≤ length out.old) × (c < 25) × Sound self.now.book.now at self.now.count }
+        ensures returned { result ≡ place_of self.now.book.now at self.now.count }
+        ensures buffer { PutColumn self.now.count c (values self.now.count (drop at self.now.book.now)) out.old out.new }
+    {
+        let mut place = at;
+        for row in 0..self.count {
+            let step = sound_step(self.book, place);
+            // The library says nothing of what a slice ends as whose chunks were lent to be written.
+            out[ROW * row + c] = step.value;
+            place = step.next;
         }
-        at += 1;
+        place
     }
-    at
+
+    // Puts them into as many rows.
+    // requires: the reader has compared the rows with those lent, and found no damage.
+    pub fn put(&self, out: &mut [u32])
+        requires { (25 * self.now.count ≤ length out.old) × Sound self.now.book.now self.now.start (25 * self.now.count) }
+        ensures { out.new ≡ rows_of self.now.count (values (25 * self.now.count) (drop self.now.start self.now.book.now)) ++ drop (25 * self.now.count) out.old }
+    {
+        let mut at = self.start;
+        for c in 0..ROW {
+            at = self.put_column(c, at, out);
+        }
+    }
+}
+
+// Refuses the lowest bad one of some rows. One search for these and for a book's would take a closure that has its places, and a contract longer than both.
+pub fn examine_rows(rows: &[[u32; ROW]]) -> Result<(), Refusal>
+    ensures { result ≡ bad_row (length rows.now) (first_bad (length rows.now) (flat rows.now)) }
+{
+    for (r, row) in rows.iter().enumerate() {
+        if !good_row(*row) {
+            return Err(Refusal::BookRow(r as u64));
+        }
+    }
+    Ok(())
 }

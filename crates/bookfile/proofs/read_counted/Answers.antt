@@ -1,38 +1,52 @@
--- `read_counted` meets its contract. Assumes nothing.
-use mathlib.Core.Path.{◌∙◌, ap}
-use native.Mathlib.Omega.{arith}
+-- `read_counted` meets its contract: the refusals one after the other, and the rows. Assumes nothing.
+use Rattle.std.proofs.Common.{◌≡◌, ◌∙◌, sym, Err, rules}
 use Rattle.groups.proofs.Decode.{decode_within}
-use Rattle.book.specs.Read.{book_damage}
-use Rattle.bookfile.proofs.Reading.{refused, seen, way_count, way_fits, way_done}
+use Rattle.bookfile.proofs.Reading.{damage_seen, sound, few, room, count_refused, damage_refused, row_refused, room_refused, done}
 use Rattle.bookfile.proofs.read_counted.Goals as goal
 
-pub returns-then-n : goal.returns-then-n
-returns-then-n c =
-    let d = refused _ c.args.rows.now _ (way_count _ _ _ c.requires c.args.rows.now (omega arith)) (λ z. omega arith) in
-    record { returned = d.0; buffer = d.1 }
+pub returns-in_err-ensure : goal.returns-in_err-ensure
+returns-in_err-ensure c =
+    let r : c.from_residual.result ≡ Err c.in_err-ensure.field-0.0 = search rules in
+    let d = count_refused _ _ _ c.requires c.args.rows.now (sym c.ensure.ensures ∙ c.in_err-ensure.was) in
+    record { returned = r ∙ d.0; buffer = d.1 }
 
-pub column_starts-places-requires : goal.column_starts-places-requires
-column_starts-places-requires c = (decode_within _ _ _ c.requires).ends
+pub invariant_of-columns : goal.invariant_of-columns
+invariant_of-columns c = record { within = (decode_within _ _ _ c.requires).ends; few = few _ _ _ c.requires (sym c.ensure.ensures ∙ c.in_ok-ensure.was) }
 
-pub returns-then-damage-ne0 : goal.returns-then-damage-ne0
-returns-then-damage-ne0 c =
-    let s = seen c.args.book.now _ _ c.requires c.args.rows.now (omega arith) _ c.column_starts-places.ensures _ (c.book_damage-damage.ensures ∙ ap book_damage c.last_damage.ensures) in
-    let d = refused _ _ _ (s.damaged c.if-damage-ne0.true) c.if-damage-ne0.true in
-    record { returned = d.0; buffer = d.1 }
+pub returns-in_err-book_damage : goal.returns-in_err-book_damage
+returns-in_err-book_damage c =
+    let r : c.from_residual-in_err-book_damage.result ≡ Err c.in_err-book_damage.field-0.0 = search rules in
+    let few = sym c.ensure.ensures ∙ c.in_ok-ensure.was in
+    let damage = damage_seen _ _ _ c.requires c.starts-places.ensures c.last_damage.ensures c.book_damage.ensures in
+    let d = damage_refused _ _ _ c.requires c.args.rows.now few (damage ∙ c.in_err-book_damage.was) in
+    record { returned = r ∙ d.0; buffer = d.1 }
 
-pub returns-then-unfit-ne0 : goal.returns-then-unfit-ne0
-returns-then-unfit-ne0 c =
-    let s = seen c.args.book.now _ _ c.requires c.args.rows.now (omega arith) _ c.column_starts-places.ensures _ (c.book_damage-damage.ensures ∙ ap book_damage c.last_damage.ensures) in
-    let d = refused _ _ _ (s.rows (omega arith) c.first_bad_at-bad.ensures c.rows_refusal-unfit.ensures) c.if-unfit-ne0.true in
-    record { returned = d.0; buffer = d.1 }
+pub returns-in_err-examine : goal.returns-in_err-examine
+returns-in_err-examine c =
+    let r : c.from_residual-in_err-examine.result ≡ Err c.in_err-examine.field-0.0 = search rules in
+    let few = sym c.ensure.ensures ∙ c.in_ok-ensure.was in
+    let damage = damage_seen _ _ _ c.requires c.starts-places.ensures c.last_damage.ensures c.book_damage.ensures ∙ c.in_ok-book_damage.was in
+    let d = row_refused _ _ _ c.requires c.args.rows.now few damage c.starts-places.ensures (sym c.examine.ensures ∙ c.in_err-examine.was) in
+    record { returned = r ∙ d.0; buffer = d.1 }
 
-pub put_columns-requires : goal.put_columns-requires
-put_columns-requires c =
-    let s = seen c.args.book.now _ _ c.requires c.args.rows.now (omega arith) _ c.column_starts-places.ensures _ (c.book_damage-damage.ensures ∙ ap book_damage c.last_damage.ensures) in
-    (way_fits _ _ _ c.requires c.args.rows.now _ c.rows_refusal-unfit.ensures (omega arith), omega arith, s.sound (omega arith))
+pub returns-in_err-ensure-2 : goal.returns-in_err-ensure-2
+returns-in_err-ensure-2 c =
+    let r : c.from_residual-in_err-ensure-2.result ≡ Err c.in_err-ensure-2.field-0.0 = search rules in
+    let few = sym c.ensure.ensures ∙ c.in_ok-ensure.was in
+    let damage = damage_seen _ _ _ c.requires c.starts-places.ensures c.last_damage.ensures c.book_damage.ensures ∙ c.in_ok-book_damage.was in
+    let good = sym c.examine.ensures ∙ c.in_ok-examine.was in
+    let d = room_refused _ _ _ c.requires c.args.rows.now few damage c.starts-places.ensures good (sym c.ensure-2.ensures ∙ c.in_err-ensure-2.was) in
+    record { returned = r ∙ d.0; buffer = d.1 }
+
+pub put-requires : goal.put-requires
+put-requires c =
+    let damage = damage_seen _ _ _ c.requires c.starts-places.ensures c.last_damage.ensures c.book_damage.ensures ∙ c.in_ok-book_damage.was in
+    (room _ _ _ c.requires c.args.rows.now (sym c.ensure-2.ensures ∙ c.in_ok-ensure-2.was), sound _ _ _ c.requires damage)
 
 pub returns : goal.returns
 returns c =
-    let s = seen c.args.book.now _ _ c.requires c.args.rows.now (omega arith) _ c.column_starts-places.ensures _ (c.book_damage-damage.ensures ∙ ap book_damage c.last_damage.ensures) in
-    let d = way_done _ _ _ c.requires _ _ (s.rows (omega arith) c.first_bad_at-bad.ensures c.rows_refusal-unfit.ensures) (omega arith) in
-    record { returned = d.0; buffer = c.put_columns.ensures ∙ d.1 }
+    let few = sym c.ensure.ensures ∙ c.in_ok-ensure.was in
+    let damage = damage_seen _ _ _ c.requires c.starts-places.ensures c.last_damage.ensures c.book_damage.ensures ∙ c.in_ok-book_damage.was in
+    let good = sym c.examine.ensures ∙ c.in_ok-examine.was in
+    let d = done _ _ _ c.requires c.args.rows.now few damage c.starts-places.ensures good (sym c.ensure-2.ensures ∙ c.in_ok-ensure-2.was) in
+    record { returned = d.0; buffer = c.put.ensures ∙ d.1 }

@@ -1,5 +1,4 @@
 -- The first c numbers are the row's, and the first c places have moved. Assumes nothing.
-use Prim.Native.Nat.{◌-◌, ◌≤◌}
 use mathlib.Core.Path.{◌≡◌}
 use lib.ListN.{replicate}
 use Rattle.groups.proofs.Front.{front}
@@ -8,7 +7,4 @@ use Rattle.bookfile.proofs.places.next_row.Given as goal
 
 abbrev pub invariant-loop-c : goal.invariant-loop-c
 invariant-loop-c l =
-    (l.c ≤ 25) × (l.numbers ≡ front (replicate 25 0) (row_at l.book l.initial.places) l.c) × (l.places ≡ front l.initial.places (moved l.book l.initial.places) l.c)
-
-abbrev pub decreases-loop-c : goal.decreases-loop-c
-decreases-loop-c l = 25 - l.c
+    (l.numbers ≡ front (replicate 25 0) (row_at l.book l.initial.places) l.c) × (l.places ≡ front l.initial.places (moved l.book l.initial.places) l.c)

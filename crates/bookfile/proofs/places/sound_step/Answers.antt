@@ -12,12 +12,12 @@ pub overflow_add-result : goal.overflow_add-result
 overflow_add-result c = omega (arith, stands_here c.args.book.now c.args.at c.requires)
 
 pub returns-then-a-lt128 : goal.returns-then-a-lt128
-returns-then-a-lt128 c = step_one _ _ c.requires _ c.wide-a.ensures c.if-a-lt128.true
+returns-then-a-lt128 c = step_one _ _ c.requires _ c.from-a.ensures c.if-a-lt128.true
 
 pub bounds-book-at-2 : goal.bounds-book-at-2
 bounds-book-at-2 c =
-    let l : 128 ≤ get_or c.args.book.now c.args.at 0 = omega (arith, c.wide-a.ensures, c.if-a-lt128.false) in
+    let l : 128 ≤ get_or c.args.book.now c.args.at 0 = omega (arith, c.from-a.ensures, c.if-a-lt128.false) in
     stands_next c.args.book.now c.args.at c.requires l
 
 pub returns-then-b-lt128 : goal.returns-then-b-lt128
-returns-then-b-lt128 c = step_two _ _ c.requires _ _ c.wide-a.ensures c.wide-b.ensures c.if-a-lt128.false c.if-b-lt128.true
+returns-then-b-lt128 c = step_two _ _ c.requires _ _ c.from-a.ensures c.from-b.ensures c.if-a-lt128.false c.if-b-lt128.true
