@@ -1,19 +1,25 @@
--- Laws of the lines of the checks: the line of a check, and those after it.
+-- Laws of the lines of the checks: the next line, and that nothing is left after the last.
 -- Assumes nothing.
-use mathlib.Core.Path.{◌≡◌}
-use mathlib.Core.List.{List, [], ◌++◌}
-use Prim.Native.Nat.{ℕ, ◌+◌, ◌≤◌, ◌<◌}
+use mathlib.Core.Path.{◌≡◌, refl}
+use mathlib.Core.List.{List, [], ◌∷◌, ◌++◌}
+use Prim.Native.Nat.{ℕ, ◌+◌}
 use native.Mathlib.Numerals.{add-one}
-use lib.ListN.{length, get_or, drop, drop_of_length-le}
-use lib.Seq.{drop-cons}
+use native.Mathlib.Omega.{arith}
+use lib.ListN.{length}
 use Rattle.report.specs.Report.{check_line, check_lines}
 
-module _ (vs fs : List ℕ) (i : ℕ) where
-  pub lines_next : i < length vs → i < length fs
-      → check_lines (i + 1) (drop i vs) (drop i fs) ≡ check_line (i + 1) (get_or vs i 0) (get_or fs i 0) ++ check_lines (i + 1 + 1) (drop (i + 1) vs) (drop (i + 1) fs)
-  unfolding check_lines
-  lines_next v f = rw (drop-cons vs i 0 v, drop-cons fs i 0 f) (simp add-one)
+pub lines_next : {xs ys vs fs : List ℕ} {v f : ℕ} (check : ℕ) → xs ≡ v ∷ vs → ys ≡ f ∷ fs
+    → check_lines check xs ys ≡ check_line check v f ++ check_lines (check + 1) vs fs
+unfolding check_lines
+lines_next check a b = rw (a, b, add-one)
 
-  pub lines_end : length vs ≤ i → check_lines (i + 1) (drop i vs) (drop i fs) ≡ []
-  unfolding check_lines
-  lines_end v = rw (drop_of_length-le vs v)
+pub no_verdict : (check : ℕ) (xs ys : List ℕ) → length xs ≡ 0 → check_lines check xs ys ≡ []
+unfolding check_lines
+no_verdict check [] ys e = refl
+no_verdict check (a ∷ xs) ys e = absurd (omega arith)
+
+pub no_figure : (check : ℕ) (xs ys : List ℕ) → length ys ≡ 0 → check_lines check xs ys ≡ []
+unfolding check_lines
+no_figure check [] ys e = refl
+no_figure check (a ∷ xs) [] e = refl
+no_figure check (a ∷ xs) (b ∷ ys) e = absurd (omega arith)

@@ -2,10 +2,10 @@
 -- Assumes nothing.
 use mathlib.Core.Path.{◌≡◌, refl, sym, ap, ◌∙◌}
 use mathlib.Core.List.{[], ◌∷◌, ◌++◌}
-use Prim.Native.Nat.{ℕ, zero, suc, ◌*◌, ◌/◌, ◌%◌, ◌≤◌, ◌<◌}
-use native.Mathlib.Nat.{le_refl}
+use Prim.Native.Nat.{ℕ, zero, suc, ◌+◌, ◌*◌, ◌/◌, ◌%◌, ◌^◌, ◌≤◌, ◌<◌}
+use native.Mathlib.Nat.{le_refl, pow-succ'}
 use native.Mathlib.Omega.{arith}
-use lib.Dec.{T, ltb, leb, leb→le}
+use lib.Dec.{ltb}
 use lib.ListN.{length, length-append}
 use borrow.Author.Tests.{lt-ltb, le-ltb, ltb-true, ltb-false}
 use Rattle.basis.specs.Figure.{Is}
@@ -52,30 +52,30 @@ one_length n h = ap length (one n h)
 pub more_length : (n : ℕ) → 10 ≤ n → length (digits n) ≡ suc (length (digits (n / 10)))
 more_length n h = rw (more n h, length-append) (omega arith)
 
--- the least number with k + 2 digits
-unfoldable pub bound : ℕ → ℕ
-bound zero = 10
-bound (suc k) = 10 * bound k
+-- there is one digit at least
+digits_some : (n : ℕ) → 1 ≤ length (digits n)
+digits_some n =
+    cases (ltb n 10) (λ t. omega (arith, one_length n (ltb-true n 10 t)))
+    (λ t. omega (arith, more_length n (ltb-false n 10 t)))
 
-bound_least : (k : ℕ) → 10 ≤ bound k
-unfolding bound
-bound_least zero = le_refl 10
-bound_least (suc k) = omega (arith, bound_least k)
+ten_pos : (k : ℕ) → 1 ≤ 10 ^ k
+ten_pos zero = le_refl 1
+ten_pos (suc k) = rw (pow-succ' 10 k) (omega (arith, ten_pos k))
 
-pub digits_most : (k n : ℕ) → n < bound k → length (digits n) ≤ suc k
-unfolding bound
+pub digits_most : (k n : ℕ) → n < 10 ^ suc k → length (digits n) ≤ suc k
 digits_most zero n h = omega (arith, one_length n h)
 digits_most (suc k) n h =
+    let p = rw (pow-succ' 10 (suc k)) at h in
     cases (ltb n 10) (λ t. omega (arith, one_length n (ltb-true n 10 t)))
     (λ t. omega (arith, more_length n (ltb-false n 10 t), digits_most k (n / 10) (omega arith)))
 
-digits_least : (k n : ℕ) → bound k ≤ n → suc (suc k) ≤ length (digits n)
-unfolding bound
-digits_least zero n h =
-    cases (ltb (n / 10) 10) (λ t. omega (arith, more_length n h, one_length (n / 10) (ltb-true (n / 10) 10 t)))
-    (λ t. omega (arith, more_length n h, more_length (n / 10) (ltb-false (n / 10) 10 t)))
-digits_least (suc k) n h = omega (arith, more_length n (omega (arith, bound_least k)), digits_least k (n / 10) (omega arith))
+pub digits_least : (k n : ℕ) → 10 ^ k ≤ n → suc k ≤ length (digits n)
+digits_least zero n h = omega (arith, digits_some n)
+digits_least (suc k) n h =
+    let p = rw (pow-succ' 10 k) at h in
+    let t : 10 ≤ n = omega (arith, ten_pos k) in
+    omega (arith, more_length n t, digits_least k (n / 10) (omega arith))
 
 -- a number between two powers of ten
-pub digits_counted : (k n : ℕ) → T (leb k 18) → bound k ≤ n → n < bound (suc k) → Is (suc (suc k)) (length (digits n)) 20
-digits_counted k n t l u = record { is = omega (arith, digits_least k n l, digits_most (suc k) n u); most = omega (arith, leb→le k 18 t) }
+pub digits_counted : (k n : ℕ) → k < 20 → 10 ^ k ≤ n → n < 10 * 10 ^ k → Is (k + 1) (length (digits n)) 20
+digits_counted k n b l u = record { is = omega (arith, digits_least k n l, digits_most k n (rw (pow-succ' 10 k) u)); most = omega arith }

@@ -3,7 +3,7 @@
 use mathlib.Core.Path.{◌≡◌}
 use mathlib.Core.Bool.{Bool, cond}
 use mathlib.Core.List.{List}
-use Prim.Native.Nat.{ℕ, zero, suc, ◌≤◌}
+use Prim.Native.Nat.{ℕ, zero, suc, ◌^◌, ◌≤◌}
 use native.Mathlib.Omega.{arith}
 use lib.Dec.{T, ltb}
 use lib.ListN.{length, length-append}
@@ -28,11 +28,11 @@ use Rattle.formwork.proofs.Same.{judgement_same as support_same}
 use Rattle.report.specs.Digits.{digits_within, digits}
 use Rattle.report.specs.Report.{check_lines, height_line, report}
 use Rattle.report.specs.Enough.{enough, support_enough, Enough}
-use Rattle.report.proofs.Digits.{bound, one_length, digits_most}
+use Rattle.report.proofs.Digits.{one_length, digits_most}
 use Rattle.report.proofs.LineLengths.{check_line_length, pair_line_length, column_line_length}
 
 -- a number of at most m has no more digits than m
-width : (k : ℕ) {n : ℕ} (m : ℕ) → T (ltb m (bound k)) → n ≤ m → length (digits n) ≤ suc k
+width : (k : ℕ) {n : ℕ} (m : ℕ) → T (ltb m (10 ^ suc k)) → n ≤ m → length (digits n) ≤ suc k
 width k {n} m t h = digits_most k n (lt_below m t h)
 
 verdict_width : (b : Bool) → length (digits (verdict b)) ≡ 1
@@ -42,7 +42,7 @@ due_width : (c b : Bool) → length (digits (cond c 0 (verdict b))) ≡ 1
 due_width c b = one_length _ (due_digit c b)
 
 checks_most : (s : List ℕ) (j : Job) → Bounds j → length (check_lines 1 (W.judgement s j).verdicts (W.judgement s j).figures) ≤ 119
-unfolding digits_within digits check_lines W.judgement W.verdicts W.figures bound
+unfolding digits_within digits check_lines W.judgement W.verdicts
 checks_most s j r =
     let f1 = width 6 4400000 tt (Most.transom_moment_most r) in
     let f2 = width 4 99999 tt (Most.transom_deflection_most r) in
@@ -56,14 +56,14 @@ checks_most s j r =
     simp (length-append, check_line_length, verdict_width, due_width) (omega arith)
 
 height_most : (family n : ℕ) → n ≤ 6001 → length (height_line (W.heights family n)) ≤ 17
-unfolding height_line bound
+unfolding height_line
 height_most family zero l = omega arith
 height_most family (suc H) l =
     let k : H ≤ 6000 = omega arith in
     rw pair_line_length (omega (arith, width 3 6000 tt k, width 3 5000 tt (Most.permitted_most family H)))
 
 job_most : (s : List ℕ) (j : Job) → Stands j → length (report (judgement j s)) ≤ enough
-unfolding report W.judgement W.count bound
+unfolding report W.judgement W.count
 job_most s j a =
     let r = bounds j a in
     let c = checks_most s j r in
@@ -74,7 +74,7 @@ job_most s j a =
     rw (judgement_same j s) (simp (length-append, pair_line_length, column_line_length) (omega arith))
 
 support_most : (sheet : List ℕ) (s : Support) → SupportStands s → length (report (Formwork.judgement s sheet)) ≤ support_enough
-unfolding digits_within digits report height_line check_lines F.judgement F.verdicts F.figures bound
+unfolding digits_within digits report height_line check_lines F.judgement F.verdicts F.figures
 support_most sheet s a =
     let r = support_bounds s a in
     let n = width 5 156000 tt (SupportMost.force_most r) in

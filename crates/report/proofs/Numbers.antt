@@ -8,7 +8,6 @@ use lib.ListN.{length, set, length-append}
 use lib.Seq.{sets}
 use Rattle.report.specs.Digits.{digit_byte, digits}
 use Rattle.report.specs.Report.{number_then}
-use Rattle.report.specs.Put.{Put}
 use Rattle.report.proofs.Digits.{one, more, more_length}
 use Rattle.report.proofs.Stores.{sets_append, sets_last}
 
@@ -24,10 +23,6 @@ module _ (l : List ℕ) (at : ℕ) where
 
   -- the first digit and the byte after the number, once the digits between are stored
   pub number_then_stored : (out : List ℕ) (n rest after : ℕ) → rest < 10 → sets out at (digits rest) ≡ sets l at (digits n)
-      → Put (at + length (digits n) + 1) at (number_then n after) l (set (set out at (digit_byte rest)) (at + length (digits n)) after)
+      → set (set out at (digit_byte rest)) (at + length (digits n)) after ≡ sets l at (number_then n after)
   unfolding number_then
-  number_then_stored out n rest after h e =
-      record {
-        next = rw (number_then_length n after) (omega arith);
-        now = rw (sets_append, ← e, one rest h);
-      }
+  number_then_stored out n rest after h e = rw (sets_append, ← e, one rest h)

@@ -2,49 +2,57 @@
 -- Assumes nothing.
 use mathlib.Core.Path.{◌≡◌, ◌∙◌, sym}
 use mathlib.Core.List.{List, [], ◌++◌}
-use Prim.Native.Nat.{ℕ, ◌+◌}
+use Prim.Native.Nat.{ℕ, ◌+◌, ◌≤◌}
 use native.Mathlib.Nat.{zero-add}
 use native.Mathlib.Omega.{arith}
 use lib.ListN.{length, drop, length-append}
 use lib.Seq.{sets, length-sets, sets-eq}
+use Rattle.report.specs.declared.text.Text.{Text}
 use Rattle.report.specs.Put.{Room, Put}
 use Rattle.report.proofs.Stores.{sets_append}
 
-pub room_first : {at : ℕ} {s l : List ℕ} (t : List ℕ) → Room at (s ++ t) l → Room at s l
+pub room_first : {text : Text} {s : List ℕ} (t : List ℕ) → Room (s ++ t) text → Room s text
 room_first t h = record { fits = omega (arith, rw length-append at h.fits) }
 
-module _ {r at : ℕ} {s l m : List ℕ} (p : Put r at s l m) where
-  pub room_then : {t : List ℕ} → Room at (s ++ t) l → Room r t m
+module _ {s : List ℕ} {a b : Text} (p : Put s a b) where
+  pub room_then : {t : List ℕ} → Room (s ++ t) a → Room t b
   room_then h = record { fits = rw (p.next, p.now, length-sets) (omega (arith, rw length-append at h.fits)) }
 
-  pub put_then : {q : ℕ} {t k : List ℕ} → Put q r t m k → Put q at (s ++ t) l k
+  pub put_then : {t : List ℕ} {c : Text} → Put t b c → Put (s ++ t) a c
   put_then {t = t} o =
       record {
+        lent = o.lent ∙ p.lent;
         next = rw length-append (omega (arith, p.next, o.next));
-        now = o.now ∙ rw (p.next, p.now) (sym (sets_append l at s t));
+        now = o.now ∙ rw (p.next, p.now) (sym (sets_append a.out.now a.at s t));
       }
 
--- the bytes that are left, written from the next place on, make the whole
-pub record Unfinished (at : ℕ) (rest out all before : List ℕ) : Type 0 where
-  pub made : sets out at rest ≡ sets before 0 all
-  pub ends : at + length rest ≡ length all
-  pub same : length out ≡ length before
+-- the bytes that are left, added to a text, make the whole
+pub record Unfinished (rest : List ℕ) (text : Text) (all : List ℕ) (before : Text) : Type 0 where
+  pub lent : text.out.ghost_name ≡ before.out.ghost_name
+  pub made : sets text.out.now text.at rest ≡ sets before.out.now before.at all
+  pub ends : text.at + length rest ≡ before.at + length all
+  pub same : length text.out.now ≡ length before.out.now
 
-module _ {at : ℕ} {s out all before : List ℕ} (t : List ℕ) (u : Unfinished at (s ++ t) out all before) where
-  pub unfinished_room : Room 0 all before → Room at s out
+module _ {text before : Text} {s all : List ℕ} (t : List ℕ) (u : Unfinished (s ++ t) text all before) where
+  pub unfinished_room : Room all before → Room s text
   unfinished_room h = record { fits = omega (arith, rw length-append at u.ends) }
 
-  pub unfinished_next : {r : ℕ} {m : List ℕ} → Put r at s out m → Unfinished r t m all before
+  pub unfinished_next : {next : Text} → Put s text next → Unfinished t next all before
   unfinished_next p =
       record {
+        lent = p.lent ∙ u.lent;
         made = rw (p.next, p.now, ← sets_append) u.made;
         ends = rw p.next (omega (arith, rw length-append at u.ends));
         same = rw (p.now, length-sets) u.same;
       }
 
-pub unfinished_end : {at : ℕ} {out all before : List ℕ} → Unfinished at [] out all before → Put at 0 all before out
-unfinished_end u = record { next = omega arith; now = u.made }
+pub unfinished_end : {text before : Text} {all : List ℕ} → Unfinished [] text all before → Put all before text
+unfinished_end u = record { lent = u.lent; next = omega arith; now = u.made }
 
--- bytes written at the front of a buffer
-pub put_front : {r : ℕ} {s l m : List ℕ} → Room 0 s l → Put r 0 s l m → (r ≡ length s) × (m ≡ s ++ drop (length s) l)
-put_front {s = s} {l = l} h p = (omega (arith, p.next), p.now ∙ simp zero-add at (sets-eq s l 0 h.fits))
+-- a text that begins at the front of a buffer: there is room for what is no longer, and what is added stands at the front
+module _ {s l : List ℕ} {a : Text} (h : length s ≤ length l) (e : a.at ≡ 0) (o : a.out.now ≡ l) where
+  pub room_front : Room s a
+  room_front = record { fits = rw (e, o, zero-add) h }
+
+  pub put_front : {b : Text} → Put s a b → (b.at ≡ length s) × (b.out.now ≡ s ++ drop (length s) l)
+  put_front p = (omega (arith, p.next), p.now ∙ rw (e, o) (simp zero-add at (sets-eq s l 0 (rw zero-add h))))

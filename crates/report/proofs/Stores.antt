@@ -1,13 +1,13 @@
 -- Laws of bytes stored one after another.
 -- Assumes nothing.
-use mathlib.Core.Path.{◌≡◌}
-use mathlib.Core.List.{List, [], ◌∷◌, ◌++◌}
-use Prim.Native.Nat.{ℕ, suc, ◌+◌, ◌<◌}
+use mathlib.Core.Path.{◌≡◌, sym}
+use mathlib.Core.List.{List, [], ◌∷◌, ◌++◌, append_assoc}
+use Prim.Native.Nat.{ℕ, suc, ◌+◌, ◌-◌, ◌≤◌}
 use native.Mathlib.Nat.{add-zero}
 use native.Mathlib.Omega.{arith}
-use native.Mathlib.Numerals.{add-one}
-use lib.ListN.{length, get_or, set, drop}
-use lib.Seq.{sets, set_comm, drop-cons}
+use lib.ListN.{length, set, take}
+use lib.Seq.{sets, set_comm, sets-eq}
+use borrow.Rule.Slice.PartMut.{put_mid, Post-is}
 
 pub sets_append : (l : List ℕ) (i : ℕ) (s t : List ℕ) → sets l i (s ++ t) ≡ sets (sets l i s) (i + length s) t
 sets_append l i [] t = rw add-zero
@@ -20,9 +20,6 @@ sets_last l i (b ∷ s) a =
     let e : i + suc (length s) ≡ suc i + length s = omega arith in
     rw (e, set_comm l (suc i + length s) i a b (λ q. omega arith)) (sets_last (set l i b) (suc i) s a)
 
--- byte i of a word, and the bytes after it
-pub next_stored : (l : List ℕ) (at i : ℕ) (word : List ℕ) → i < length word
-    → sets (set l (at + i) (get_or word i 0)) (at + (i + 1)) (drop (i + 1) word) ≡ sets l (at + i) (drop i word)
-next_stored l at i word h =
-    let e : at + (i + 1) ≡ suc (at + i) = omega arith in
-    rw (e, add-one, drop-cons word i 0)
+-- a part of the buffer that is copied over
+pub part_stored : (l : List ℕ) (at : ℕ) (s : List ℕ) → at + length s ≤ length l → put_mid at (at + length s - at) l s ≡ sets l at s
+part_stored l at s h = rw (Post-is at (at + length s) l (omega arith), sets-eq s l at h) (sym (append_assoc (take at l) s _))

@@ -1,7 +1,7 @@
 -- Document 01, "Job file and report": the report of a judgement, byte by byte, and what writing it answers and leaves.
 -- Assumes nothing.
-use Rattle.std.specs.Prelude.{ℕ, suc, List, [], ◌∷◌, ◌++◌, length}
-use Rattle.basis.specs.declared.Written.{Written}
+use Rattle.std.specs.Prelude.{ℕ, suc, List, [], ◌∷◌, ◌++◌, length, Result}
+use Rattle.basis.specs.declared.Refusal.{Refusal}
 use Rattle.basis.specs.Writing.{room_refusal, written_or, left_or}
 use Rattle.section5.specs.declared.Heights.{Heights}
 use Rattle.section5.specs.declared.Heights.TheVariants.{NoLine, Nowhere, Both}
@@ -76,7 +76,7 @@ report g =
     check_lines 1 g.verdicts g.figures ++ (height_line g.heights ++ (wind_line g.wk g.mw ++ column_line g.z))
 
 -- what writing it into a buffer answers: the length written, or refusal 8 with the length needed
-abbrev pub report_written : Judgement → List ℕ → Written
+abbrev pub report_written : Judgement → List ℕ → Result ℕ Refusal
 report_written g out = written_or (room_refusal (report g) out) (length (report g))
 
 -- and what it leaves in the buffer

@@ -16,11 +16,9 @@ fn check_length(check: u64, verdict: u64, figure: u64) -> usize
 pub(crate) fn checks_length(verdicts: [u8; CHECKS], figures: [u64; CHECKS]) -> usize
     ensures { Is result (length (check_lines 1 verdicts figures)) (63 * checks) }
 {
-    let mut i: usize = 0;
-    let mut sum: usize = 0;
-    while i < CHECKS {
-        sum += check_length(i as u64 + 1, verdicts[i] as u64, figures[i]);
-        i += 1;
+    let mut sum = 0;
+    for (i, (verdict, figure)) in verdicts.iter().zip(&figures).enumerate() {
+        sum += check_length(i as u64 + 1, u64::from(*verdict), *figure);
     }
     sum
 }

@@ -1,63 +1,72 @@
-// The lines of a report, as bytes at a place of a buffer.
-ghost use Rattle.report.specs.Report.{check_line, check_lines, pair, height_line, column_line};
+// The lines of a report, added to a text.
+ghost use Rattle.report.specs.Report.{check_line, check_lines, pair, height_line, column_line, report};
 ghost use Rattle.report.specs.Put.{Room, Put};
 
-use crate::text::{put_number, put_word};
-use section5::{CHECKS, Heights};
+use crate::text::Text;
+use section5::{CHECKS, Heights, Judgement};
 
-const SPACE: u8 = 32;
-
-const LINE_END: u8 = 10;
-
-fn put_check(out: &mut [u8], at: usize, check: u64, verdict: u64, figure: u64) -> usize
-    requires { Room at (check_line check verdict figure) out.old }
-    ensures { Put result at (check_line check verdict figure) out.old out.new }
-{
-    let verdict_at = put_number(out, at, check, SPACE);
-    let figure_at = put_number(out, verdict_at, verdict, SPACE);
-    put_number(out, figure_at, figure, LINE_END)
-}
-
-pub(crate) fn put_checks(out: &mut [u8], verdicts: [u8; CHECKS], figures: [u64; CHECKS]) -> usize
-    requires { Room 0 (check_lines 1 verdicts figures) out.old }
-    ensures { Put result 0 (check_lines 1 verdicts figures) out.old out.new }
-{
-    let mut i: usize = 0;
-    let mut at: usize = 0;
-    while i < CHECKS {
-        at = put_check(out, at, i as u64 + 1, verdicts[i] as u64, figures[i]);
-        i += 1;
+impl Text<'_> {
+    #[tactic(auto, using(crate::proofs::Put::room_first, crate::proofs::Put::room_then, crate::proofs::Put::put_then), unfolding(crate::specs::Report::check_line))]
+    fn check(&mut self, check: u64, verdict: u64, figure: u64)
+        requires { Room (check_line check verdict figure) self.old }
+        ensures { Put (check_line check verdict figure) self.old self.new }
+    {
+        self.number(check, b' ');
+        self.number(verdict, b' ');
+        self.number(figure, b'\n');
     }
-    at
-}
 
-// Two numbers, with which a line ends. The word before them is its caller's, so that its bytes are stored without a loop.
-pub(crate) fn put_pair(out: &mut [u8], at: usize, first: u64, second: u64) -> usize
-    requires { Room at (pair first second) out.old }
-    ensures { Put result at (pair first second) out.old out.new }
-{
-    let second_at = put_number(out, at, first, SPACE);
-    put_number(out, second_at, second, LINE_END)
-}
-
-pub(crate) fn put_height_line(out: &mut [u8], at: usize, heights: Heights) -> usize
-    requires { Room at (height_line heights) out.old }
-    ensures { Put result at (height_line heights) out.old out.new }
-{
-    match heights {
-        Heights::NoLine => at,
-        Heights::Nowhere => put_word(out, at, b"height none\n"),
-        Heights::Both(stability, permitted) => {
-            let stability_at = put_word(out, at, b"height ");
-            put_pair(out, stability_at, stability, permitted)
+    pub(crate) fn checks(&mut self, verdicts: [u8; CHECKS], figures: [u64; CHECKS])
+        requires { Room (check_lines 1 verdicts figures) self.old }
+        ensures { Put (check_lines 1 verdicts figures) self.old self.new }
+    {
+        for (i, (verdict, figure)) in verdicts.iter().zip(&figures).enumerate() {
+            self.check(i as u64 + 1, u64::from(*verdict), *figure);
         }
     }
-}
 
-pub(crate) fn put_column_line(out: &mut [u8], at: usize, z: u64) -> usize
-    requires { Room at (column_line z) out.old }
-    ensures { Put result at (column_line z) out.old out.new }
-{
-    let z_at = put_word(out, at, b"column ");
-    put_number(out, z_at, z, LINE_END)
+    // Two numbers, with which a line ends. The word before them is its caller's, so that its bytes are stored without a loop.
+    #[tactic(auto, using(crate::proofs::Put::room_first, crate::proofs::Put::room_then, crate::proofs::Put::put_then), unfolding(crate::specs::Report::pair))]
+    pub(crate) fn pair(&mut self, first: u64, second: u64)
+        requires { Room (pair first second) self.old }
+        ensures { Put (pair first second) self.old self.new }
+    {
+        self.number(first, b' ');
+        self.number(second, b'\n');
+    }
+
+    #[tactic(auto, using(crate::proofs::Put::room_first, crate::proofs::Put::room_then, crate::proofs::Put::put_then), unfolding(crate::specs::Report::height_line, crate::specs::Report::pair_line))]
+    pub(crate) fn heights(&mut self, heights: Heights)
+        requires { Room (height_line heights) self.old }
+        ensures { Put (height_line heights) self.old self.new }
+    {
+        match heights {
+            Heights::NoLine => {}
+            Heights::Nowhere => self.word(b"height none\n"),
+            Heights::Both(stability, permitted) => {
+                self.word(b"height ");
+                self.pair(stability, permitted);
+            }
+        }
+    }
+
+    #[tactic(auto, using(crate::proofs::Put::room_first, crate::proofs::Put::room_then, crate::proofs::Put::put_then), unfolding(crate::specs::Report::column_line))]
+    pub(crate) fn column(&mut self, z: u64)
+        requires { Room (column_line z) self.old }
+        ensures { Put (column_line z) self.old self.new }
+    {
+        self.word(b"column ");
+        self.number(z, b'\n');
+    }
+
+    pub(crate) fn report(&mut self, g: Judgement)
+        requires { Room (report g) self.old }
+        ensures { Put (report g) self.old self.new }
+    {
+        self.checks(g.verdicts, g.figures);
+        self.heights(g.heights);
+        self.word(b"wind ");
+        self.pair(g.wk, g.mw);
+        self.column(g.z);
+    }
 }

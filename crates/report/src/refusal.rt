@@ -2,8 +2,7 @@
 ghost use Rattle.std.specs.Prelude.{◌≡◌, length};
 ghost use Rattle.report.specs.Refused.{refused_line, written_over};
 
-use crate::lines::put_pair;
-use crate::text::put_word;
+use crate::text::Text;
 
 // The length of a buffer that has room for the line of any refusal.
 pub const ROOM: usize = 192;
@@ -13,6 +12,8 @@ pub fn write_refused(number: u64, place: u64, out: &mut [u8; ROOM]) -> usize
     ensures returned { result ≡ length (refused_line number place) }
     ensures buffer { out.new ≡ written_over (refused_line number place) out.old }
 {
-    let number_at = put_word(out, 0, b"refused ");
-    put_pair(out, number_at, number, place)
+    let mut text = Text::new(out);
+    text.word(b"refused ");
+    text.pair(number, place);
+    text.at
 }

@@ -1,80 +1,61 @@
-// Numbers and words as bytes at a place of a buffer; each writer returns the place after them.
-ghost use Rattle.std.specs.Prelude.{length};
+// A text that grows in a lent buffer: its numbers and words.
+ghost use Rattle.std.specs.Prelude.{◌≡◌, length};
 ghost use Rattle.basis.specs.Figure.{Is};
 ghost use Rattle.report.specs.Digits.{digits};
 ghost use Rattle.report.specs.Report.{number_then};
 ghost use Rattle.report.specs.Put.{Room, Put};
 
-// How many digits a number has, by division.
-fn divided_digit_count(n: u64) -> usize
-    ensures { Is result (length (digits n)) 20 }
-{
-    let mut rest = n;
-    let mut count: usize = 1;
-    while 10 <= rest {
-        rest = rest / 10;
-        count += 1;
-    }
-    count
+// The buffer, and where in it the next byte goes.
+#[derive(Drop)]
+pub(crate) struct Text<'a> {
+    pub out: &'a mut [u8],
+    pub at: usize,
 }
 
-// How many digits a number has; figures of accepted jobs have at most eight, and comparing costs less than dividing.
+// How many digits a number has.
 pub(crate) fn digit_count(n: u64) -> usize
     ensures { Is result (length (digits n)) 20 }
 {
     if n < 10 {
         return 1;
     }
-    if n < 100 {
-        return 2;
-    }
-    if n < 1000 {
-        return 3;
-    }
-    if n < 10000 {
-        return 4;
-    }
-    if n < 100000 {
-        return 5;
-    }
-    if n < 1000000 {
-        return 6;
-    }
-    if n < 10000000 {
-        return 7;
-    }
-    if n < 100000000 {
-        return 8;
-    }
-    divided_digit_count(n)
+    n.ilog10() as usize + 1
 }
 
-// A number, its last digit first, and the byte after it.
-pub(crate) fn put_number(out: &mut [u8], at: usize, n: u64, after: u8) -> usize
-    requires { Room at (number_then n after) out.old }
-    ensures { Put result at (number_then n after) out.old out.new }
-{
-    let end = at + digit_count(n);
-    let mut place = end;
-    let mut rest = n;
-    while 10 <= rest {
-        place -= 1;
-        out[place] = 48 + (rest % 10) as u8;
-        rest = rest / 10;
+impl<'a> Text<'a> {
+    // A text with nothing in it yet.
+    pub(crate) fn new(out: &'a mut [u8]) -> Text<'a>
+        ensures lent { result.out.ghost_name ≡ out.entry.ghost_name }
+        ensures begin { result.at ≡ 0 }
+        ensures same { result.out.now ≡ out.old }
+    {
+        Text { out, at: 0 }
     }
-    out[at] = 48 + rest as u8;
-    out[end] = after;
-    end + 1
-}
 
-pub(crate) fn put_word(out: &mut [u8], at: usize, word: &[u8]) -> usize
-    requires { Room at word.now out.old }
-    ensures { Put result at word.now out.old out.new }
-{
-    let mut i: usize = 0;
-    while i < word.len() {
-        out[at + i] = word[i];
-        i += 1;
+    pub(crate) fn word(&mut self, word: &[u8])
+        requires { Room word.now self.old }
+        ensures { Put word.now self.old self.new }
+    {
+        let end = self.at + word.len();
+        self.out[self.at..end].copy_from_slice(word);
+        self.at = end;
     }
-    at + i
+
+    // A number, its last digit first, and the byte after it. The library's itoa does the same with a table of 200 bytes, which a unit would burn.
+    pub(crate) fn number(&mut self, n: u64, after: u8)
+        requires { Room (number_then n after) self.old }
+        ensures { Put (number_then n after) self.old self.new }
+    {
+        let end = self.at + digit_count(n);
+        let mut place = end;
+        let mut rest = n;
+        while 10 <= rest {
+            place -= 1;
+            self.out[place] = b'0' + (rest % 10) as u8;
+            rest /= 10;
+        }
+        self.out[self.at] = b'0' + rest as u8;
+        self.out[end] = after;
+        self.at = end + 1;
+    }
 }
