@@ -1,8 +1,9 @@
 -- What the program prints, by definition over the bytes of column.dat and of standard input.
 -- Assumes nothing.
-use Rattle.std.specs.Prelude.{cond, ℕ, min, ◌≡◌, List, eqb, length, take}
-use Rattle.basis.specs.Refusal.{number, place, sheet_length}
+use Rattle.std.specs.Prelude.{cond, ℕ, min, ◌≡◌, List, eqb, length, take, Ok, Err}
+use Rattle.basis.specs.Refusal.{number, place, Examined}
 use Rattle.basis.specs.declared.Refusal.{Refusal}
+use Rattle.basis.specs.declared.Refusal.TheVariants.{SheetLength}
 use Rattle.jobfile.specs.Kind.{Kind}
 use Rattle.jobfile.specs.Beginning.{beginning_length}
 use Rattle.groups.specs.Decode.{Bytes}
@@ -11,16 +12,21 @@ use Rattle.rembilung.specs.Table.{InputRow, Judges, report_of}
 use Rattle.report.specs.Refused.{refused_line}
 
 -- the line of a refusal, a place above 4,294,967,295 being given as that
-unfoldable pub line : Refusal → List ℕ
+abbrev pub line : Refusal → List ℕ
 line refusal = refused_line (number refusal) (min (place refusal) 4294967295)
+
+-- a text where nothing is refused, else the line of the refusal
+abbrev pub text_or_line : Examined → List ℕ → List ℕ
+text_or_line (Ok none) text = text
+text_or_line (Err refusal) text = line refusal
 
 -- the report, or the line of what is refused of the sheet and the file: 8, which is refused of a buffer, is never printed
 unfoldable pub printed : List ℕ → List ℕ → List ℕ
-printed sheet file = cond (eqb (number (input_refusal sheet file)) 0) (text sheet file) (line (input_refusal sheet file))
+printed sheet file = text_or_line (input_refusal sheet file) (text sheet file)
 
 -- the same from a sheet's length, its first bytes and the file: another length than 502 bytes is refused before anything else
 unfoldable pub printed_from : ℕ → List ℕ → List ℕ → List ℕ
-printed_from n sheet file = cond (eqb n 502) (printed sheet file) (line (sheet_length n))
+printed_from n sheet file = cond (eqb n 502) (printed sheet file) (line (SheetLength n))
 
 -- a program may hold 502 bytes of column.dat and the beginning of standard input, and count the sheet's length to 4,294,967,295
 pub record Beginnings : Type 0 where

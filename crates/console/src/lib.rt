@@ -4,7 +4,6 @@
 ghost use Rattle.std.specs.Prelude.{◌≤◌, length, IfOk};
 
 use crate::printed::{GREATEST_PLACE, write_printed};
-use basis::least_of;
 use jobfile::BEGINNING_LENGTH;
 use report::refusal::ROOM;
 use std::io::{ErrorKind, Read, Write};
@@ -19,109 +18,82 @@ fn read_some<F: Read>(from: &mut F, out: &mut [u8]) -> io::Result<usize>
 {
     for _ in 0..u64::MAX {
         match from.read(&mut out[..]) {
-            Ok(n) => return Ok(n),
-            Err(e) => {
-                if e.kind() != ErrorKind::Interrupted {
-                    return Err(e);
-                }
-            }
+            Err(e) if e.kind() == ErrorKind::Interrupted => {}
+            read => return read,
         }
     }
     Err(io::Error::from(ErrorKind::Interrupted))
 }
 
-// Reads the first bytes of a file, until the buffer is full or the file ends or cannot be read; gives how many.
-fn first_bytes<F: Read>(from: &mut F, out: &mut [u8]) -> usize
-    ensures { result ≤ length out.new }
-{
-    let mut at: usize = 0;
+// The first bytes of a file, read until the buffer is full or the file ends or cannot be read.
+fn first_bytes<'a, F: Read>(from: &mut F, out: &'a mut [u8]) -> &'a [u8] {
+    let mut at = 0;
+    // It ends with what is read, which no range says.
     while at < out.len() {
-        let Ok(more) = read_some(from, &mut out[at..]) else {
-            return at;
-        };
-        if more == 0 {
-            return at;
+        match read_some(from, &mut out[at..]) {
+            Ok(more) if more != 0 => at += more,
+            _ => break,
         }
-        at += more;
     }
-    at
+    &out[..at]
 }
 
 // The length of a file of which some bytes are read, counted to its end or to 4,294,967,295.
 fn length_of<F: Read>(from: &mut F, first: usize) -> io::Result<u64> {
     let mut space = [0u8; 4096];
-    let mut length = least_of(first as u64, GREATEST_PLACE);
+    let mut length = GREATEST_PLACE.min(first as u64);
+    // It ends with what is read, or where the length no longer matters.
     while length < GREATEST_PLACE {
         let more = read_some(from, &mut space)?;
         if more == 0 {
             return Ok(length);
         }
-        length = least_of(length + more as u64, GREATEST_PLACE);
+        length = GREATEST_PLACE.min(length + more as u64);
     }
     Ok(length)
 }
 
-// What there is of column.dat: its length, how many of its first bytes are read, and why it cannot be read.
-#[derive(Drop)]
-struct Sheet {
+// What there is of column.dat: its length, and its first bytes.
+#[derive(Clone, Copy)]
+struct Sheet<'a> {
     length: u64,
-    kept: usize,
-    fault: Option<io::Error>,
+    first: &'a [u8],
 }
 
-// Reads column.dat, its first bytes to the front of a buffer. One that is missing, or cannot be read, counts as empty.
-fn read_sheet<R: Files>(rt: &R, bytes: &mut [u8; 502]) -> Sheet
-    ensures { result.kept ≤ 502 }
-{
-    match fs::open(rt, "column.dat") {
-        Ok(mut file) => {
-            let kept = first_bytes(&mut file, &mut bytes[..]);
-            match length_of(&mut file, kept) {
-                Ok(length) => Sheet {
-                    length,
-                    kept,
-                    fault: None,
-                },
-                Err(e) => Sheet {
-                    length: 0,
-                    kept,
-                    fault: Some(e),
-                },
-            }
-        }
-        Err(e) => {
-            let fault = if e.kind() == ErrorKind::NotFound {
-                None
-            } else {
-                Some(e)
-            };
-            Sheet {
-                length: 0,
-                kept: 0,
-                fault,
-            }
-        }
-    }
+// Reads column.dat, its first bytes into a buffer. One that is missing counts as empty.
+fn read_sheet<'a, R: Files>(rt: &R, bytes: &'a mut [u8]) -> io::Result<Sheet<'a>> {
+    let mut file = match fs::open(rt, "column.dat") {
+        Err(e) if e.kind() == ErrorKind::NotFound => return Ok(Sheet {
+            length: 0,
+            first: &[],
+        }),
+        file => file?,
+    };
+    let first = first_bytes(&mut file, bytes);
+    let length = length_of(&mut file, first.len())?;
+    Ok(Sheet { length, first })
 }
 
-// Reads, answers and prints, and last names a column.dat that is there and cannot be read. There is nothing to promise of a result but that it ends: no clause can name what a system reads or writes.
+// Reads, answers and prints, and last names a column.dat that is there and cannot be read, which counts as empty. There is nothing to promise of a result but that it ends: no clause can name what a system reads or writes.
 pub fn run<R: Files + Input + Print + Eprint>(rt: &R) -> io::Result<()>
     ensures { Unit }
 {
-    let mut bytes = [0u8; 502];
-    let sheet = read_sheet(rt, &mut bytes);
-    let mut file = [0u8; BEGINNING_LENGTH];
+    let mut bytes = [0; 502];
+    let found = read_sheet(rt, &mut bytes);
+    let sheet = match &found {
+        Ok(sheet) => *sheet,
+        Err(_) => Sheet {
+            length: 0,
+            first: &[],
+        },
+    };
+    let mut file = [0; BEGINNING_LENGTH];
     let given = first_bytes(&mut rt.reader(), &mut file);
-    let mut text = [0u8; ROOM];
-    let n = write_printed(
-        sheet.length,
-        &bytes[..sheet.kept],
-        &file[..given],
-        &mut text,
-    );
+    let mut text = [0; ROOM];
+    let n = write_printed(sheet.length, sheet.first, given, &mut text);
     io::writer(rt).write_all(&text[..n])?;
-    match sheet.fault {
-        Some(e) => eprintln!(rt; "column.dat: {e}"),
-        None => Ok(()),
+    match found {
+        Ok(_) => Ok(()),
+        Err(e) => eprintln!(rt; "column.dat: {e}"),
     }
 }

@@ -2,14 +2,22 @@
 ghost use Rattle.std.specs.Prelude.{◌≡◌, length};
 ghost use Rattle.console.specs.Prefix.{IsPrefixLen};
 ghost use Rattle.report.specs.Refused.{written_over};
-ghost use Rattle.console.specs.Printed.{printed_from};
+ghost use Rattle.console.specs.Printed.{line, printed_from};
 
-use basis::least_of;
-use rembilung::rembilung_verdict;
+use basis::Refusal;
 use report::refusal::{ROOM, write_refused};
 
 // A place above that is given as that.
 pub(crate) const GREATEST_PLACE: u64 = 4294967295;
+
+// Writes the line of a refusal at the front of a buffer, and gives its length.
+fn write_line(refusal: Refusal, out: &mut [u8; ROOM]) -> usize
+    ensures returned { result ≡ length (line refusal) }
+    ensures buffer { out.new ≡ written_over (line refusal) out.old }
+{
+    let place = refusal.place().min(GREATEST_PLACE);
+    write_refused(u64::from(refusal.number()), place, out)
+}
 
 // The report, or the line of the refusal, at the front of a buffer, from a sheet's size and first bytes and a file; gives its length.
 pub fn write_printed(size: u64, sheet: &[u8], file: &[u8], out: &mut [u8; ROOM]) -> usize
@@ -18,11 +26,10 @@ pub fn write_printed(size: u64, sheet: &[u8], file: &[u8], out: &mut [u8; ROOM])
     ensures buffer { out.new ≡ written_over (printed_from size sheet.now file.now) out.old }
 {
     if size != 502 {
-        return write_refused(1, least_of(size, GREATEST_PLACE), out);
+        return write_line(Refusal::SheetLength(size), out);
     }
-    let code = rembilung_verdict(sheet, file, out);
-    if code < 4294967296 {
-        return code as usize;
+    match rembilung::verdict(sheet, file, out) {
+        Ok(n) => n,
+        Err(refusal) => write_line(refusal, out),
     }
-    write_refused(code / 4294967296, code % 4294967296, out)
 }

@@ -2,35 +2,38 @@
 -- Assumes nothing.
 use mathlib.Core.Path.{◌≡◌, ◌∙◌, refl, ap}
 use mathlib.Core.List.{List, ◌++◌, append-nil}
-use Prim.Native.Nat.{ℕ}
+use Prim.Native.Nat.{ℕ, ◌+◌, ◌*◌, min}
 use native.Mathlib.Omega.{arith}
 use lib.ListN.{length, drop, drop_of_length-le}
-use borrow.Author.Tests.{ne_eqb}
+use Rattle.std.specs.Prelude.{Result, Ok}
+use Rattle.basis.specs.Refusal.{Examined}
 use Rattle.basis.specs.Writing.{written_or, left_or}
-use Rattle.basis.specs.Rows.{Follows}
+use Rattle.basis.specs.Rows.{Refused, Follows}
+use Rattle.basis.proofs.Rows.{refused_first}
 use Rattle.job.proofs.Numbers.{numbers_job}
 use Rattle.support.proofs.Numbers.{numbers_support}
 use Rattle.groups.specs.Encode.{encode_all}
 use Rattle.groups.specs.Decode.{Bytes}
 use Rattle.jobfile.specs.Kind.{Kind, scaffold, support, count}
-use Rattle.jobfile.specs.Read.{job_as}
-use Rattle.jobfile.specs.Write.{file_written, file_left}
+use Rattle.jobfile.specs.Read.{job_as, job_in}
 use Rattle.basis.specs.declared.Refusal.{Refusal}
-use Rattle.rembilung.specs.Code.{code_of, written_code}
-use Rattle.rembilung.specs.Call.{text, call_code, call_buffer, numbers_as, write_code, write_buffer, returned_in, left_in, read_code, read_buffer}
+use Rattle.rembilung.specs.Code.{written_code}
+use Rattle.rembilung.specs.Call.{text, call_code, call_buffer, numbers_as, write_code, write_buffer, count_in, left_in, read_code, read_buffer}
 use Rattle.rembilung.specs.Table.{Refuses, ReadRow, Reads, WriteRow, Writes, report_of, CallRow, Answers}
 use Rattle.rembilung.proofs.Table.{reads_job, reads_refused, write_follows, text_is, call_follows}
 
-module _ {r : Refusal} {Row : ℕ → ℕ → Type 0} {None : Type 0} (f : Follows r Row None) (written out : List ℕ) where
+-- the code of an answer that is refused
+pub code_refused : (answer : Result ℕ Refusal) (n p : ℕ) → Refused answer n p → written_code answer ≡ n * 4294967296 + min p 4294967295
+code_refused answer n p a = rw (a.is, a.number_is, a.place_is) refl
+
+module _ {r : Examined} {Row : ℕ → ℕ → Type 0} {None : Type 0} (f : Follows r Row None) (written out : List ℕ) where
   -- of a text that is written, or not
   pub writes_refused : (n p : ℕ) → Row n p → Refuses n p (written_code (written_or r (length written))) out (left_or r written out)
-  unfolding written_code code_of written_or left_or
   writes_refused n p a =
       let e = f.row n p a in
-      rw (e.1, ne_eqb n 0 (λ z. omega (arith, e.0))) (record { code = refl; kept = refl })
+      record { code = code_refused (written_or r (length written)) n p (refused_first (Ok (length written)) e); kept = rw e.is refl }
 
   pub writes_done : (text : List ℕ) → written ≡ text → None → (written_code (written_or r (length written)) ≡ length text) × (left_or r written out ≡ text ++ drop (length text) out)
-  unfolding written_code code_of written_or left_or
   writes_done text e a = rw (f.none a, ← e) (refl, refl)
 
 -- the whole call
@@ -53,33 +56,34 @@ numbers_are support ns l = numbers_support ns l
 -- writing a job file
 module _ (k : Kind) (ns out : List ℕ) (l : length ns ≡ count k) where
   pub write_refused : (n p : ℕ) → WriteRow k ns out n p → Refuses n p (write_code k ns out) out (write_buffer k ns out)
-  unfolding write_code write_buffer file_written file_left
+  unfolding write_code write_buffer
   write_refused = rw (numbers_are k ns l) (writes_refused (write_follows k ns out) (encode_all ns) out)
 
   pub write_answered : Writes k ns out → (write_code k ns out ≡ length (encode_all ns)) × (write_buffer k ns out ≡ encode_all ns ++ drop (length (encode_all ns)) out)
-  unfolding write_code write_buffer file_written file_left
+  unfolding write_code write_buffer
   write_answered = rw (numbers_are k ns l) (writes_done (write_follows k ns out) (encode_all ns) out (encode_all ns) refl)
 
 -- what reading a kind's numbers returns and leaves
-count_in_lem : (k : Kind) (ns : List ℕ) → returned_in (job_as k ns) ≡ count k
-unfolding returned_in job_as
-count_in_lem scaffold ns = refl
-count_in_lem support ns = refl
+count_is : (k : Kind) (ns : List ℕ) → written_code (count_in (Ok (job_as k ns))) ≡ count k
+count_is scaffold ns = refl
+count_is support ns = refl
 
-left_in_lem : (k : Kind) (ns before : List ℕ) → length ns ≡ count k → length before ≡ 25 → left_in (job_as k ns) before ≡ ns ++ drop (count k) before
-unfolding left_in job_as
+left_in_lem : (k : Kind) (ns before : List ℕ) → length ns ≡ count k → length before ≡ 25 → left_in (Ok (job_as k ns)) before ≡ ns ++ drop (count k) before
 left_in_lem scaffold ns before m l = numbers_job ns m ∙ rw (drop_of_length-le before {i = 25} (omega arith), append-nil) refl
-left_in_lem support ns before m l = rw (numbers_support ns m)
+left_in_lem support ns before m l = ap (λ n. n ++ drop 13 before) (numbers_support ns m)
 
 -- reading one
 module _ (file : List ℕ) (w : Bytes file) where
   pub read_refused : (before : List ℕ) (n p : ℕ) → ReadRow file n p → Refuses n p (read_code file) before (read_buffer file before)
-  unfolding read_code read_buffer returned_in left_in code_of
-  read_refused before n p a = rw (reads_refused file w n p a).1 (record { code = refl; kept = refl })
+  unfolding read_code read_buffer
+  read_refused before n p a =
+      let e = reads_refused file w n p a in
+      let c : Refused (count_in (job_in file)) n p = record { refusal = e.refusal; is = ap count_in e.is; number_is = e.number_is; place_is = e.place_is } in
+      record { code = code_refused (count_in (job_in file)) n p c; kept = rw e.is refl }
 
   pub read_count : (k : Kind) (ns : List ℕ) → Reads k file ns → read_code file ≡ count k
   unfolding read_code
-  read_count k ns a = ap returned_in (reads_job file w k ns a) ∙ count_in_lem k ns
+  read_count k ns a = ap (λ r. written_code (count_in r)) (reads_job file w k ns a) ∙ count_is k ns
 
   pub read_numbers : (before : List ℕ) → length before ≡ 25 → (k : Kind) (ns : List ℕ) → Reads k file ns → read_buffer file before ≡ ns ++ drop (count k) before
   unfolding read_buffer

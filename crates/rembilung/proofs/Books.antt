@@ -1,17 +1,16 @@
 -- What is asked of books, proved: from the table's rows and the round trip of crate book.
 -- Assumes nothing.
 use Prim.Native.Nat.{ℕ, ◌*◌, ◌/◌, ◌≤◌}
-use mathlib.Core.Path.{◌≡◌, ◌∙◌, refl, sym, ap}
+use mathlib.Core.Path.{◌≡◌, ◌∙◌, refl, sym}
 use mathlib.Core.List.{List, ◌++◌}
 use mathlib.Core.Logic.{⊎_elim}
 use native.Mathlib.Omega.{arith}
 use lib.ListN.{length, take, drop}
 use lib.Seq.{take-append_seam}
-use Rattle.basis.specs.Refusal.{number}
-use Rattle.basis.specs.Rows.{Follows}
+use Rattle.std.specs.Prelude.{Result, Ok, Err}
+use Rattle.basis.specs.Refusal.{Examined}
+use Rattle.basis.specs.Rows.{Refused}
 use Rattle.basis.specs.declared.Refusal.{Refusal}
-use Rattle.basis.specs.declared.Written.{Written}
-use Rattle.basis.specs.declared.Written.TheVariants.{Length, Refused}
 use Rattle.basis.proofs.Rows.{exactly}
 use Rattle.groups.specs.Decode.{Bytes}
 use Rattle.book.specs.Book.{rows_most, row_count}
@@ -21,33 +20,31 @@ use Rattle.book.specs.Rows.{ReadRow, Reads, WriteRow, Writes}
 use Rattle.book.proofs.Rows.{told}
 use Rattle.book.proofs.Answered as Answered
 use Rattle.book.proofs.RoundTrip.{read_answer, write_answer, rewritten, whole_one, whole_most, round_trip}
-use Rattle.rembilung.specs.Code.{code_of, written_code}
+use Rattle.rembilung.specs.Code.{written_code}
 use Rattle.rembilung.specs.Call.{write_book_code, write_book_buffer, read_book_code, read_book_buffer}
 use Rattle.rembilung.specs.Table.{Refuses}
 use Rattle.rembilung.specs.Header.{Halves}
 use Rattle.rembilung.specs.Books.{book_most, book_rows_most, SomeRows, Books}
+use Rattle.rembilung.proofs.Answered.{code_refused}
 use Rattle.rembilung.proofs.Header.{halves}
 
--- what is returned of a length, and of a refusal
-returned : {w : Written} {n : ℕ} → w ≡ Length n → written_code w ≡ n
-unfolding written_code code_of
+-- what is returned of a length
+returned : {w : Result ℕ Refusal} {n : ℕ} → w ≡ Ok n → written_code w ≡ n
 returned e = rw e refl
 
 -- a row that applies is what is refused
-refuses : {r : Refusal} {Row : ℕ → ℕ → Type 0} {None : Type 0} → Follows r Row None → (w : Written) (before after : List ℕ)
-    → ((number r ≡ 0 → ⊥) → (w ≡ Refused r) × (after ≡ before)) → (n p : ℕ) → Row n p → Refuses n p (written_code w) before after
-unfolding written_code code_of
-refuses f w before after h n p a =
-    let e = f.row n p a in
-    let d = h (λ z. omega (arith, e.0, ap number e.1)) in
-    record { code = rw (d.0, e.1) refl; kept = d.1 }
+refuses : {r : Examined} (w : Result ℕ Refusal) (before after : List ℕ) → ((x : Refusal) → r ≡ Err x → (w ≡ Err x) × (after ≡ before))
+    → (n p : ℕ) → Refused r n p → Refuses n p (written_code w) before after
+refuses w before after h n p e =
+    let d = h e.refusal e.is in
+    record { code = code_refused w n p (record { refusal = e.refusal; is = d.0; number_is = e.number_is; place_is = e.place_is }); kept = d.1 }
 
 -- ---- Writing
 
 module _ (rows out : List ℕ) where
   write_refused : (n p : ℕ) → WriteRow rows out n p → Refuses n p (write_book_code rows out) out (write_book_buffer rows out)
   unfolding write_book_code write_book_buffer
-  write_refused = refuses (told.writing rows out) (book_written rows out) out (book_left rows out) (Answered.write_refused rows out)
+  write_refused n p a = refuses (book_written rows out) out (book_left rows out) (λ x. Answered.write_refused rows out) n p ((told.writing rows out).row n p a)
 
   write_answered : Writes rows out → (write_book_code rows out ≡ length (whole_book rows)) × (write_book_buffer rows out ≡ whole_book rows ++ drop (length (whole_book rows)) out)
   unfolding write_book_code write_book_buffer
@@ -70,7 +67,7 @@ module _ (rows out : List ℕ) where
 module _ (book out : List ℕ) (w : Bytes book) where
   read_refused : (n p : ℕ) → ReadRow book out n p → Refuses n p (read_book_code book out) out (read_book_buffer book out)
   unfolding read_book_code read_book_buffer
-  read_refused = refuses (told.reading book out w) (rows_read book out) out (rows_left book out) (Answered.read_refused book out)
+  read_refused n p a = refuses (rows_read book out) out (rows_left book out) (λ x. Answered.read_refused book out) n p ((told.reading book out w).row n p a)
 
   read_answered : (n : ℕ) (rows : List ℕ) → Reads book out n rows → (read_book_code book out ≡ n) × (read_book_buffer book out ≡ rows ++ drop (25 * n) out)
   unfolding read_book_code read_book_buffer

@@ -21,16 +21,15 @@ use Rattle.support.specs.Support.{support_of}
 use Rattle.jobfile.specs.Kind.{Kind, scaffold, support, count}
 use Rattle.report.specs.Report.{height_line, report}
 use Rattle.section5.specs.Section5.{checks, verdicts, stability, poles, heights, judgement}
-use Rattle.section5.specs.declared.Height.{Height}
-use Rattle.section5.specs.declared.Height.TheVariants.{None, At}
+use Rattle.std.specs.Prelude.{Option, None, Some}
 use Rattle.section5.specs.Poles.{NoHigher, UpTo, with_height}
 use Rattle.section5.proofs.Poles.{poles_are_verdicts}
 use Rattle.section5.specs.Formwork as Formwork
 use Rattle.section5.specs.Harsher.{Harsher, HarsherSupport}
-use Rattle.judge.specs.Answer.{Accepted}
+use Rattle.judge.specs.Answer.{Accepted, verdict_in, heights_in}
 use Rattle.judge.specs.Demand3.{rank}
 use Rattle.judge.specs.Demand3 as Judging
-use Rattle.judge.proofs.Ways.{stands_accepted, accepted_judgement}
+use Rattle.judge.proofs.Ways.{stands_accepted, accepted_answer}
 use Rattle.judge.proofs.Demand.{demand3}
 use Rattle.formwork.specs.Answer.{Accepted as SupportAccepted}
 use Rattle.formwork.specs.Order as Order
@@ -120,25 +119,25 @@ accepted : (sheet file ns : List ℕ) → Judges scaffold sheet file ns → Acce
 accepted sheet file ns a = stands_accepted (entries_of sheet) (job_of ns) (entries_stand sheet a.sheet_stands) a.reads.stands
 
 -- heights in the order of the judgement's
-no_higher : (j k : Job) (a b : Height) → rank (heights k b) ≤ rank (heights j a) → NoHigher b a
+no_higher : (j k : Job) (a b : Option ℕ) → rank (heights k b) ≤ rank (heights j a) → NoHigher b a
 unfolding heights
 no_higher j k a None l = tt
-no_higher j k None (At H) l = omega arith
-no_higher j k (At K) (At H) l = omega arith
+no_higher j k None (Some H) l = omega arith
+no_higher j k (Some K) (Some H) l = omega arith
 
-up_to : (j : Job) (a : Height) (H : ℕ) → Judging.UpTo H (heights j a) ↔ UpTo H a
+up_to : (j : Job) (a : Option ℕ) (H : ℕ) → Judging.UpTo H (heights j a) ↔ UpTo H a
 unfolding heights
 up_to j None H = (λ u. u, λ u. u)
-up_to j (At K) H = (λ u. u, λ u. u)
+up_to j (Some K) H = (λ u. u, λ u. u)
 
 module _ (s : List ℕ) (j : Job) (a : Accepted s j) where
   verdict_judged : (i : ℕ) → Judging.verdict_at s j i ≡ get_or (verdicts j s) i 0
   unfolding judgement
-  verdict_judged i = ap (λ g. get_or g.verdicts i 0) (accepted_judgement s j a)
+  verdict_judged i = ap (λ r. verdict_in r i) (accepted_answer s j a)
 
   heights_judged : Judging.heights_of s j ≡ heights j (stability j s)
   unfolding judgement
-  heights_judged = ap (λ g. g.heights) (accepted_judgement s j a)
+  heights_judged = ap heights_in (accepted_answer s j a)
 
 module _ (sheet file₁ file₂ out₁ out₂ : List ℕ) (w₁ : Bytes file₁) (w₂ : Bytes file₂) (n₁ n₂ : List ℕ)
     (a : Answers scaffold sheet file₁ out₁ n₁) (b : Answers scaffold sheet file₂ out₂ n₂) (h : Harsher (job_of n₁) (job_of n₂)) where
@@ -199,7 +198,7 @@ module _ (sheet file out : List ℕ) (w : Bytes file) (ns : List ℕ) (a : Answe
   unfolding Formwork.judgement
   support_verdict_is i l =
       rw (call_answered sheet file out w support ns a).1
-      (support_verdict_shown (support_of ns) (entries_of sheet) _ i l ∙ sym (ap (λ g. get_or g.verdicts i 0) (Supporting.accepted_judgement (entries_of sheet) (support_of ns) (support_accepted sheet file ns a.judges))))
+      (support_verdict_shown (support_of ns) (entries_of sheet) _ i l ∙ sym (ap (λ r. verdict_in r i) (Supporting.accepted_answer (entries_of sheet) (support_of ns) (support_accepted sheet file ns a.judges))))
 
 support_no_pass_gained : (sheet file₁ file₂ out₁ out₂ : List ℕ) → Bytes file₁ → Bytes file₂ → (n₁ n₂ : List ℕ)
     → Answers support sheet file₁ out₁ n₁ → Answers support sheet file₂ out₂ n₂ → HarsherSupport (support_of n₁) (support_of n₂)

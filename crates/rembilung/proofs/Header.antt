@@ -8,8 +8,9 @@ use native.Mathlib.Nat.{le_trans}
 use native.Mathlib.Omega.{arith}
 use lib.Dec.{lit<}
 use lib.ListN.{length}
-use Rattle.basis.specs.declared.Refusal.{Refusal}
+use Rattle.basis.specs.Refusal.{Examined}
 use Rattle.basis.specs.Rows.{Follows}
+use Rattle.basis.proofs.Refusals.{number_pos}
 use Rattle.job.specs.Job.{job_of}
 use Rattle.job.specs.Rows as Job
 use Rattle.support.specs.Support.{support_of}
@@ -27,13 +28,13 @@ use Rattle.rembilung.proofs.Table.{read_follows, write_follows, call_follows}
 use Rattle.rembilung.proofs.Answered.{call_refused, call_answered, write_refused, write_answered, read_refused, read_count}
 
 -- from the code of each row, and an answer's below 4,294,967,296
-pub halves : {r : Refusal} {Row : ℕ → ℕ → Type 0} {None : Type 0} → Follows r Row None → (returned : ℕ)
+pub halves : {r : Examined} {Row : ℕ → ℕ → Type 0} {None : Type 0} → Follows r Row None → (returned : ℕ)
     → ((n p : ℕ) → Row n p → returned ≡ n * 4294967296 + min p 4294967295) → (None → returned < 4294967296) → Halves returned Row None
 halves f returned refused answered =
     record {
       refused = λ n p a. let e = refused n p a in (omega arith, omega arith);
       answered = λ a. let l = answered a in omega arith;
-      only = λ h. ⊎_elim (λ a. a) (λ w. let e = refused w.0 w.1.0 w.1.1 in absurd (omega (arith, (f.row w.0 w.1.0 w.1.1).0))) f.every;
+      only = λ h. ⊎_elim (λ a. a) (λ w. let e = refused w.0 w.1.0 w.1.1 in let d = f.row w.0 w.1.0 w.1.1 in absurd (omega (arith, d.number_is, number_pos d.refusal))) f.every;
     }
 
 report_short : (k : Kind) (sheet ns : List ℕ) → Stands k ns → length (report_of k sheet ns) ≤ report_most k

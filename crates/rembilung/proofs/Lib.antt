@@ -1,4 +1,3 @@
-pub mod Returned
 pub mod Ways
 pub mod Room
 pub mod Table

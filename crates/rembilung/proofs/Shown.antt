@@ -10,8 +10,7 @@ use borrow.Author.Tests.{eq-eqb, ne_eqb}
 use Rattle.job.specs.declared.Job.{Job}
 use Rattle.support.specs.declared.Support.{Support}
 use Rattle.section5.specs.declared.Judgement.{Judgement}
-use Rattle.section5.specs.declared.Height.{Height}
-use Rattle.section5.specs.declared.Height.TheVariants.{None, At}
+use Rattle.std.specs.Prelude.{Option, None, Some}
 use Rattle.section5.specs.Section5.{checks, verdicts, figures, stability, heights, judgement}
 use Rattle.section5.specs.Formwork as Formwork
 use Rattle.report.specs.Digits.{digit_byte, digits}
@@ -55,11 +54,11 @@ unfolding number_then
 number_read n l = rw append_assoc (read_back.back n (space ∷ l) refl)
 
 -- and as that height, since no digit is the byte of "n"
-number_height : (n : ℕ) (l : List ℕ) → height_at (number_then n space ++ l) ≡ At n
+number_height : (n : ℕ) (l : List ℕ) → height_at (number_then n space ++ l) ≡ Some n
 unfolding height_at number_then
 number_height n l =
     rw append_assoc
-    (rw (ne_eqb (get_or (digits n ++ (space ∷ l)) 0 0) 110 (λ e. omega (arith, first_below n (space ∷ l)))) (ap At (read_back.back n (space ∷ l) refl)))
+    (rw (ne_eqb (get_or (digits n ++ (space ∷ l)) 0 0) 110 (λ e. omega (arith, first_below n (space ∷ l)))) (ap Some (read_back.back n (space ∷ l) refl)))
 
 line_end_lem : (c v f : ℕ) (l : List ℕ) → after line_end (check_line c v f ++ l) ≡ l
 unfolding check_line
@@ -87,10 +86,10 @@ lines_end c (v ∷ vs) [] rest e = absurd (omega arith)
 lines_end c (v ∷ vs) (f ∷ fs) rest e = rw append_assoc (ap (after_lines (length vs)) (line_end_lem c v f _) ∙ lines_end (suc c) vs fs rest (omega arith))
 
 -- the height of the line after the checks
-line_height : (j : Job) (H : Height) (l : List ℕ) → height_at (after space (height_line (heights j H) ++ l)) ≡ H
+line_height : (j : Job) (H : Option ℕ) (l : List ℕ) → height_at (after space (height_line (heights j H) ++ l)) ≡ H
 unfolding height_line heights after height_at pair_line pair
 line_height j None l = refl
-line_height j (At H) l = rw append_assoc (number_height H _)
+line_height j (Some H) l = rw append_assoc (number_height H _)
 
 -- the report of any judgement shows its verdicts
 verdicts_shown : (g : Judgement) (rest : List ℕ) (i : ℕ) → length g.verdicts ≡ length g.figures → i < length g.verdicts → verdict_shown (report g ++ rest) i ≡ get_or g.verdicts i 0

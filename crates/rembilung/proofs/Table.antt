@@ -3,17 +3,18 @@
 use mathlib.Core.Path.{◌≡◌, ◌∙◌, refl, sym, ap}
 use mathlib.Core.List.{List, [], append-nil}
 use mathlib.Core.Logic.{◌⊎◌, inl, inr, ⊎_elim}
-use Prim.Native.Nat.{ℕ, ◌<◌}
-use native.Mathlib.Omega.{arith}
-use lib.Dec.{eqb, leb, lit<}
+use Prim.Native.Nat.{ℕ}
+use lib.Dec.{eqb, leb}
 use lib.ListN.{length}
-use borrow.Author.Tests.{ne_eqb, eqb-true, eqb-false, leb-true, leb-false}
+use borrow.Author.Tests.{eq-eqb, ne_eqb, eqb-true, eqb-false, leb-true, leb-false}
+use Rattle.std.specs.Prelude.{Ok}
 use Rattle.basis.specs.Refusal.{nothing, unless}
-use Rattle.basis.specs.Rows.{Some, Follows}
+use Rattle.basis.specs.declared.Refusal.TheVariants.{SheetLength, TooShort}
+use Rattle.basis.specs.Rows.{Some, Refused, Follows}
 use Rattle.basis.specs.Writing.{room_refusal}
 use Rattle.basis.proofs.Tests.{cases}
 use Rattle.basis.proofs.Writing.{room_nothing, room_short}
-use Rattle.basis.proofs.Rows.{then_row, then_rest}
+use Rattle.basis.proofs.Rows.{refused_is, refused_first, then_row, then_rest}
 use Rattle.sheet.specs.Sheet as Sheet
 use Rattle.sheet.specs.Rows as Entries
 use Rattle.sheet.proofs.Bytes.{entries_long}
@@ -26,23 +27,16 @@ use Rattle.groups.proofs.Rows.{holds_values, told as numbers-told}
 use Rattle.jobfile.specs.Kind.{Kind, scaffold, support, count, examination, Row, Stands, kind_of, Marks}
 use Rattle.jobfile.specs.Read.{refusal_as, job_as, job_in}
 use Rattle.jobfile.specs.Write.{write_refusal}
-use Rattle.jobfile.specs.declared.ReadJob.TheVariants.{Refused}
 use Rattle.jobfile.proofs.BothKinds.{told, kind_marks, stands_kind}
 use Rattle.jobfile.proofs.Sizes.{narrow}
-use Rattle.jobfile.proofs.Reading.{read_refused, read_done, read_as_marked}
+use Rattle.jobfile.proofs.Reading.{read_as_marked}
 use Rattle.rembilung.specs.Call.{entries_of, refusal_in, report_in, text, sheet_refusal, input_refusal, call_refusal}
 use Rattle.rembilung.specs.Table.{ReadRow, Reads, WriteRow, Writes, SheetStands, SheetRow, InputRow, Judges, CallRow, Answers, SomeJob, report_of}
 
 -- ---- Reading
 
--- of a job nothing is refused, and its report is that of its kind
-nothing_in : (k : Kind) (ns : List ℕ) → refusal_in (job_as k ns) ≡ nothing
-unfolding refusal_in job_as
-nothing_in scaffold ns = refl
-nothing_in support ns = refl
-
-report_in_lem : (sheet : List ℕ) (k : Kind) (ns : List ℕ) → report_in (entries_of sheet) (job_as k ns) ≡ report_of k sheet ns
-unfolding report_in job_as
+-- the report of a job is that of its kind
+report_in_lem : (sheet : List ℕ) (k : Kind) (ns : List ℕ) → report_in (entries_of sheet) (Ok (job_as k ns)) ≡ report_of k sheet ns
 report_in_lem sheet scaffold ns = refl
 report_in_lem sheet support ns = refl
 
@@ -54,18 +48,16 @@ module _ (file : List ℕ) (w : Bytes file) where
 
     -- what is refused of a file that holds a kind's numbers is refused of them
     numbers_refusal : (ns : List ℕ) → Groups.Holds (count k) file ns → refusal_as k file ≡ examination k ns
-    unfolding refusal_as
     numbers_refusal ns h = then_rest bytes_follow (examination k (values (count k) file)) (ns, h) ∙ rw (holds_values (count k) file ns h)
 
     none_is : (ns : List ℕ) → Reads k file ns → refusal_as k file ≡ nothing
     none_is ns a = numbers_refusal ns a.holds ∙ (told k ns).none a.stands
 
-    bytes_row : (n p : ℕ) → Groups.Row (count k) file n p → (0 < n) × (refusal_as k file ≡ record { number = n; place = p })
-    unfolding refusal_as
-    bytes_row n p r = ((bytes_follow.row n p r).0, then_row bytes_follow _ n p r)
+    bytes_row : (n p : ℕ) → Groups.Row (count k) file n p → Refused (refusal_as k file) n p
+    bytes_row n p r = then_row bytes_follow _ n p r
 
-    job_row : (n p : ℕ) (ns : List ℕ) → Groups.Holds (count k) file ns → Row k ns n p → (0 < n) × (refusal_as k file ≡ record { number = n; place = p })
-    job_row n p ns h r = let e = (told k ns).row n p r in (e.0, numbers_refusal ns h ∙ e.1)
+    job_row : (n p : ℕ) (ns : List ℕ) → Groups.Holds (count k) file ns → Row k ns n p → Refused (refusal_as k file) n p
+    job_row n p ns h r = rw (numbers_refusal ns h) ((told k ns).row n p r)
 
     every_as : Marks k file → SomeJob (λ k ns. Reads k file ns) ⊎ Some (ReadRow file)
     every_as m = ⊎_elim (λ h. jobs h.0 h.1) (λ r. inr (r.0, (r.1.0, ReadRow.bytes k m _ _ r.1.1))) bytes_follow.every
@@ -81,26 +73,24 @@ module _ (file : List ℕ) (w : Bytes file) where
       ap kind_of (h.is ∙ sym (append-nil (encode_all ns))) ∙ stands_kind k ns [] h.long a.stands h.narrow
 
   -- the job of a file that reads
-  pub reads_job : (k : Kind) (ns : List ℕ) → Reads k file ns → job_in file ≡ job_as k ns
+  pub reads_job : (k : Kind) (ns : List ℕ) → Reads k file ns → job_in file ≡ Ok (job_as k ns)
   unfolding job_in
-  reads_job k ns a =
-      rw (reads_kind k ns a) (sym (rw (holds_values (count k) file ns a.holds) at (read_done k file {r = nothing} (sym (none_is k ns a)) refl)))
+  reads_job k ns a = rw (reads_kind k ns a, none_is k ns a, holds_values (count k) file ns a.holds) refl
 
   -- the refusal of one that does not
-  refused_as : (k : Kind) → Marks k file → (n p : ℕ) → (0 < n) × (refusal_as k file ≡ record { number = n; place = p }) → job_in file ≡ Refused (record { number = n; place = p })
-  refused_as k m n p e = read_as_marked.read k file w m ∙ sym (read_refused k file {r = record { number = n; place = p }} (sym e.1) (λ z. omega (arith, e.0)))
+  refused_as : (k : Kind) → Marks k file → (n p : ℕ) → Refused (refusal_as k file) n p → Refused (job_in file) n p
+  refused_as k m n p r = rw (read_as_marked.read k file w m) (refused_first (Ok (job_as k (values (count k) file))) r)
 
-  pub reads_refused : (n p : ℕ) → ReadRow file n p → (0 < n) × (job_in file ≡ Refused (record { number = n; place = p }))
-  reads_refused n p (ReadRow.bytes k m a b r) = let e = bytes_row k n p r in (e.0, refused_as k m n p e)
-  reads_refused n p (ReadRow.job k m a b ns h r) = let e = job_row k n p ns h r in (e.0, refused_as k m n p e)
+  pub reads_refused : (n p : ℕ) → ReadRow file n p → Refused (job_in file) n p
+  reads_refused n p (ReadRow.bytes k m a b r) = refused_as k m n p (bytes_row k n p r)
+  reads_refused n p (ReadRow.job k m a b ns h r) = refused_as k m n p (job_row k n p ns h r)
 
   -- what the answer of reading refuses
   pub read_follows : Follows (refusal_in (job_in file)) (ReadRow file) (SomeJob (λ k ns. Reads k file ns))
-  unfolding refusal_in
   read_follows =
       record {
-        row = λ n p r. let e = reads_refused n p r in (e.0, ap refusal_in e.1);
-        none = λ a. ap refusal_in (reads_job a.0 a.1.0 a.1.1) ∙ nothing_in a.0 a.1.0;
+        row = λ n p r. let e = reads_refused n p r in record { refusal = e.refusal; is = ap refusal_in e.is; number_is = e.number_is; place_is = e.place_is };
+        none = λ a. ap refusal_in (reads_job a.0 a.1.0 a.1.1);
         every = every_as (kind_of file) (kind_marks file w);
       }
 
@@ -113,11 +103,9 @@ stands_reads k ns l s = record { holds = record { is = refl; narrow = narrow k n
 module _ (k : Kind) (ns out : List ℕ) where
   -- numbers that stand are refused only for want of room
   write_room : Stands k ns → write_refusal k ns out ≡ room_refusal (encode_all ns) out
-  unfolding write_refusal
   write_room s = then_rest (told k ns) (room_refusal (encode_all ns) out) s
 
   pub write_follows : Follows (write_refusal k ns out) (WriteRow k ns out) (Writes k ns out)
-  unfolding write_refusal
   write_follows =
       record {
         row = row;
@@ -125,9 +113,9 @@ module _ (k : Kind) (ns out : List ℕ) where
         every = ⊎_elim rooms (λ r. inr (r.0, (r.1.0, WriteRow.job _ _ r.1.1))) (told k ns).every;
       }
     where
-      row : (n p : ℕ) → WriteRow k ns out n p → (0 < n) × (write_refusal k ns out ≡ record { number = n; place = p })
-      row n p (WriteRow.job m q r) = (((told k ns).row n p r).0, then_row (told k ns) _ n p r)
-      row n p (WriteRow.short s h) = (lit< tt, write_room s ∙ room_short (encode_all ns) out h)
+      row : (n p : ℕ) → WriteRow k ns out n p → Refused (write_refusal k ns out) n p
+      row n p (WriteRow.job m q r) = then_row (told k ns) _ n p r
+      row n p (WriteRow.short s h) = refused_is (TooShort (length (encode_all ns))) (write_room s ∙ room_short (encode_all ns) out h)
 
       rooms : Stands k ns → Writes k ns out ⊎ Some (WriteRow k ns out)
       rooms s =
@@ -145,11 +133,9 @@ module _ (sheet : List ℕ) where
 
   -- what is refused of 502 bytes is refused of their entries
   sheet_entries : length sheet ≡ 502 → sheet_refusal sheet ≡ Sheet.examination (entries_of sheet)
-  unfolding sheet_refusal unless
-  sheet_entries l = rw l refl
+  sheet_entries l = ap (λ b. unless b (SheetLength (length sheet)) (Sheet.examination (entries_of sheet))) (eq-eqb (length sheet) 502 l)
 
   sheet_follows : Follows (sheet_refusal sheet) (SheetRow sheet) (SheetStands sheet)
-  unfolding sheet_refusal unless
   sheet_follows =
       record {
         row = row;
@@ -158,9 +144,9 @@ module _ (sheet : List ℕ) where
             (λ t. inr (1, (length sheet, SheetRow.other_length (eqb-false (length sheet) 502 t))));
       }
     where
-      row : (n p : ℕ) → SheetRow sheet n p → (0 < n) × (sheet_refusal sheet ≡ record { number = n; place = p })
-      row n p (SheetRow.other_length h) = (lit< tt, rw (ne_eqb (length sheet) 502 h))
-      row n p (SheetRow.entry k l u f) = (lit< tt, sheet_entries l ∙ (entries_follow.row 2 k (Entries.Row.entry k (entries_long sheet 251) u f)).1)
+      row : (n p : ℕ) → SheetRow sheet n p → Refused (sheet_refusal sheet) n p
+      row n p (SheetRow.other_length h) = refused_is (SheetLength (length sheet)) (rw (ne_eqb (length sheet) 502 h) refl)
+      row n p (SheetRow.entry k l u f) = rw (sheet_entries l) (entries_follow.row 2 k (Entries.Row.entry k (entries_long sheet 251) u f))
 
       row_2 : length sheet ≡ 502 → (n p : ℕ) → Entries.Row (entries_of sheet) n p → Some (SheetRow sheet)
       row_2 l n p (Entries.Row.other_length h) = absurd (h (entries_long sheet 251))
@@ -168,7 +154,6 @@ module _ (sheet : List ℕ) where
 
 module _ (sheet file : List ℕ) (w : Bytes file) where
   pub input_follows : Follows (input_refusal sheet file) (InputRow sheet file) (SomeJob (λ k ns. Judges k sheet file ns))
-  unfolding input_refusal
   input_follows =
       record {
         row = row;
@@ -176,9 +161,9 @@ module _ (sheet file : List ℕ) (w : Bytes file) where
         every = ⊎_elim files (λ r. inr (r.0, (r.1.0, InputRow.of_sheet _ _ r.1.1))) (sheet_follows sheet).every;
       }
     where
-      row : (n p : ℕ) → InputRow sheet file n p → (0 < n) × (input_refusal sheet file ≡ record { number = n; place = p })
-      row n p (InputRow.of_sheet m q r) = (((sheet_follows sheet).row n p r).0, then_row (sheet_follows sheet) (refusal_in (job_in file)) n p r)
-      row n p (InputRow.of_file m q s r) = let e = (read_follows file w).row n p r in (e.0, then_rest (sheet_follows sheet) (refusal_in (job_in file)) s ∙ e.1)
+      row : (n p : ℕ) → InputRow sheet file n p → Refused (input_refusal sheet file) n p
+      row n p (InputRow.of_sheet m q r) = then_row (sheet_follows sheet) (refusal_in (job_in file)) n p r
+      row n p (InputRow.of_file m q s r) = rw (then_rest (sheet_follows sheet) (refusal_in (job_in file)) s) ((read_follows file w).row n p r)
 
       files : SheetStands sheet → SomeJob (λ k ns. Judges k sheet file ns) ⊎ Some (InputRow sheet file)
       files s =
@@ -187,17 +172,14 @@ module _ (sheet file : List ℕ) (w : Bytes file) where
 
   -- the report of a call that judges
   pub text_is : (k : Kind) (ns : List ℕ) → Reads k file ns → text sheet file ≡ report_of k sheet ns
-  unfolding text
   text_is k ns a = ap (report_in (entries_of sheet)) (reads_job file w k ns a) ∙ report_in_lem sheet k ns
 
   module _ (out : List ℕ) where
     -- a sheet and a file that stand are refused only for want of room
     call_room : (k : Kind) (ns : List ℕ) → Judges k sheet file ns → call_refusal sheet file out ≡ room_refusal (report_of k sheet ns) out
-    unfolding call_refusal
     call_room k ns a = then_rest input_follows _ (k, (ns, a)) ∙ rw (text_is k ns a.reads)
 
     pub call_follows : Follows (call_refusal sheet file out) (CallRow sheet file out) (SomeJob (λ k ns. Answers k sheet file out ns))
-    unfolding call_refusal
     call_follows =
         record {
           row = row;
@@ -205,9 +187,9 @@ module _ (sheet file : List ℕ) (w : Bytes file) where
           every = ⊎_elim (λ a. rooms a.0 a.1.0 a.1.1) (λ r. inr (r.0, (r.1.0, CallRow.of_input _ _ r.1.1))) input_follows.every;
         }
       where
-        row : (n p : ℕ) → CallRow sheet file out n p → (0 < n) × (call_refusal sheet file out ≡ record { number = n; place = p })
-        row n p (CallRow.of_input m q r) = ((input_follows.row n p r).0, then_row input_follows _ n p r)
-        row n p (CallRow.short k ns a h) = (lit< tt, call_room k ns a ∙ room_short (report_of k sheet ns) out h)
+        row : (n p : ℕ) → CallRow sheet file out n p → Refused (call_refusal sheet file out) n p
+        row n p (CallRow.of_input m q r) = then_row input_follows _ n p r
+        row n p (CallRow.short k ns a h) = refused_is (TooShort (length (report_of k sheet ns))) (call_room k ns a ∙ room_short (report_of k sheet ns) out h)
 
         rooms : (k : Kind) (ns : List ℕ) → Judges k sheet file ns → SomeJob (λ k ns. Answers k sheet file out ns) ⊎ Some (CallRow sheet file out)
         rooms k ns a =

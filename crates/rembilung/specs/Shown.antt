@@ -1,8 +1,6 @@
 -- What a reader sees in a report: the verdict in the line of a check, and the stability height.
 -- Assumes nothing.
-use Rattle.std.specs.Prelude.{cond, ℕ, zero, suc, List, [], ◌∷◌, eqb, get_or}
-use Rattle.section5.specs.declared.Height.{Height}
-use Rattle.section5.specs.declared.Height.TheVariants.{None, At}
+use Rattle.std.specs.Prelude.{cond, ℕ, zero, suc, List, [], ◌∷◌, eqb, get_or, Option, None, Some}
 use Rattle.section5.specs.Section5.{checks}
 use Rattle.report.specs.Report.{space, line_end}
 use Rattle.report.specs.ReadBack.{number_at}
@@ -29,10 +27,10 @@ unfolding shown_in
 verdict_shown text n = number_at (shown_in n text)
 
 -- the height at the front of some bytes: none where they begin with "n", the byte 110, else the number
-unfoldable pub height_at : List ℕ → Height
-height_at bytes = cond (eqb (get_or bytes 0 0) 110) None (At (number_at bytes))
+unfoldable pub height_at : List ℕ → Option ℕ
+height_at bytes = cond (eqb (get_or bytes 0 0) 110) None (Some (number_at bytes))
 
 -- the stability height, in the line after those of the checks: what stands after the first space
-unfoldable pub height_shown : List ℕ → Height
+unfoldable pub height_shown : List ℕ → Option ℕ
 unfolding shown_in height_at
 height_shown text = height_at (shown_in checks text)

@@ -3,104 +3,125 @@
 
 ghost use Rattle.std.specs.Prelude.{◌≡◌};
 ghost use Rattle.jobfile.specs.Kind.{scaffold, support};
-ghost use Rattle.rembilung.specs.Code.{code, written_code};
-ghost use Rattle.rembilung.specs.Call.{call_code, call_buffer, write_code, write_buffer, read_code, read_buffer, write_book_code, write_book_buffer, read_book_code, read_book_buffer};
+ghost use Rattle.jobfile.specs.Read.{job_in};
+ghost use Rattle.rembilung.specs.Code.{written_code};
+ghost use Rattle.rembilung.specs.Call.{judgement_in, call_answer, call_code, call_buffer, count_in, left_in, write_code, write_buffer, read_code, read_buffer, write_book_code, write_book_buffer, read_book_code, read_book_buffer};
 
-use basis::{Refusal, SHEET_LENGTH, Written, least_of};
+use basis::Refusal;
 use formwork::judge_accepted_support;
-use jobfile::{JOB_NUMBERS, ReadJob, SUPPORT_NUMBERS, over_front};
+use job::Job;
+use jobfile::{FileJob, JOB_NUMBERS, SUPPORT_NUMBERS};
 use judge::judge_accepted;
+use section5::Judgement;
+use sheet::standing::StandingSheet;
+use support::Support;
 
-// A refusal as one number: its number above 32 bits, its place below.
-fn code_of(refusal: Refusal) -> u64
-    ensures { result ≡ code refusal }
+// What a call answered as one number: its length or its count alone, or the refusal's number above 32 bits and its place below.
+fn code_of(answer: Result<usize, Refusal>) -> u64
+    ensures { result ≡ written_code answer }
 {
-    let number = refusal.number as u64;
-    number * 4294967296 + least_of(refusal.place, 4294967295)
-}
-
-// What writing answered as one number: the length alone, or the refusal.
-fn written_code(written: Written) -> u64
-    ensures { result ≡ written_code written }
-{
-    match written {
-        Written::Length(n) => n as u64,
-        Written::Refused(refusal) => code_of(refusal),
+    match answer {
+        Ok(n) => n as u64,
+        Err(refusal) => {
+            u64::from(refusal.number()) * 4294967296 + refusal.place().min(4294967295)
+        }
     }
 }
 
-// The job file of a scaffold's 25 numbers: its length, or a refusal (3, 4, 5, 8).
-pub fn rembilung_write_job(numbers: &[u32; 25], file: &mut [u8]) -> u64
-    ensures returned { result ≡ write_code scaffold numbers.now file.old }
-    ensures buffer { file.new ≡ write_buffer scaffold numbers.now file.old }
+// The numbers of a job file, and how many there are: 25, or 13 and the others as they were.
+fn read_job(file: &[u8], numbers: &mut [u32; 25]) -> Result<usize, Refusal>
+    ensures returned { result ≡ count_in (job_in file.now) }
+    ensures buffer { numbers.new ≡ left_in (job_in file.now) numbers.old }
 {
-    written_code(jobfile::write(job::from_numbers(*numbers), file))
+    match jobfile::read(file)? {
+        FileJob::Scaffold(j) => {
+            *numbers = Job::from(j).into();
+            Ok(JOB_NUMBERS)
+        }
+        FileJob::Support(s) => {
+            numbers[..SUPPORT_NUMBERS].copy_from_slice(&<[u32; SUPPORT_NUMBERS]>::from(
+                Support::from(s),
+            ));
+            Ok(SUPPORT_NUMBERS)
+        }
+    }
 }
 
-// The job file of a support's 13 numbers: its length, or a refusal (3, 8).
-pub fn rembilung_write_support(numbers: &[u32; 13], file: &mut [u8]) -> u64
-    ensures returned { result ≡ write_code support numbers.now file.old }
-    ensures buffer { file.new ≡ write_buffer support numbers.now file.old }
+// The judgement of a job of either kind.
+fn judgement_of(sheet: &StandingSheet<'_>, job: FileJob) -> Judgement
+    ensures { result ≡ judgement_in sheet.now job }
 {
-    written_code(jobfile::write_support(support::from_numbers(*numbers), file))
-}
-
-// The numbers of a job file: 25, or 13 and the others as they were; or a refusal (6, 7, 3, 4, 5), with the numbers as they were.
-pub fn rembilung_read_job(file: &[u8], numbers: &mut [u32; 25]) -> u64
-    ensures returned { result ≡ read_code file.now }
-    ensures buffer { numbers.new ≡ read_buffer file.now numbers.old }
-{
-    match jobfile::read(file) {
-        ReadJob::Scaffold(j) => {
-            *numbers = job::to_numbers(j);
-            JOB_NUMBERS as u64
-        }
-        ReadJob::Support(s) => {
-            *numbers = over_front(support::to_numbers(s), *numbers);
-            SUPPORT_NUMBERS as u64
-        }
-        ReadJob::Refused(refusal) => code_of(refusal),
+    match job {
+        FileJob::Scaffold(j) => judge_accepted(sheet, &j),
+        FileJob::Support(s) => judge_accepted_support(sheet, &s),
     }
 }
 
 // The whole call: the report's length, or a refusal (1, 2, 6, 7, 3, 4, 5, 8), with the buffer as it was.
-#[tactic(auto, using(crate::proofs::Ways::bad_sheet_code, crate::proofs::Ways::bad_sheet_buffer))]
+#[tactic(auto, unfolding(crate::specs::Call::call_buffer))]
+pub fn verdict(sheet: &[u8], file: &[u8], report: &mut [u8]) -> Result<usize, Refusal>
+    ensures returned { result ≡ call_answer sheet.now file.now report.old }
+    ensures buffer { report.new ≡ call_buffer sheet.now file.now report.old }
+{
+    let Ok(bytes) = <&[u8; 502]>::try_from(sheet) else {
+        return Err(Refusal::SheetLength(sheet.len() as u64));
+    };
+    let entries = sheet::entries_of(bytes);
+    let sheet = StandingSheet::try_from(&entries[..])?;
+    let job = jobfile::read(file)?;
+    report::write(judgement_of(&sheet, job), report)
+}
+
+// The job file of a scaffold's 25 numbers: its length, or a refusal (3, 4, 5, 8).
+#[tactic(auto, unfolding(crate::specs::Call::write_code, crate::specs::Call::write_buffer))]
+pub fn rembilung_write_job(numbers: &[u32; 25], file: &mut [u8]) -> u64
+    ensures returned { result ≡ write_code scaffold numbers.now file.old }
+    ensures buffer { file.new ≡ write_buffer scaffold numbers.now file.old }
+{
+    code_of(jobfile::write(Job::from(*numbers), file))
+}
+
+// The job file of a support's 13 numbers: its length, or a refusal (3, 8).
+#[tactic(auto, unfolding(crate::specs::Call::write_code, crate::specs::Call::write_buffer))]
+pub fn rembilung_write_support(numbers: &[u32; 13], file: &mut [u8]) -> u64
+    ensures returned { result ≡ write_code support numbers.now file.old }
+    ensures buffer { file.new ≡ write_buffer support numbers.now file.old }
+{
+    code_of(jobfile::write_support(Support::from(*numbers), file))
+}
+
+// The numbers of a job file: 25, or 13 and the others as they were; or a refusal (6, 7, 3, 4, 5), with the numbers as they were.
+#[tactic(auto, unfolding(crate::specs::Call::read_code, crate::specs::Call::read_buffer))]
+pub fn rembilung_read_job(file: &[u8], numbers: &mut [u32; 25]) -> u64
+    ensures returned { result ≡ read_code file.now }
+    ensures buffer { numbers.new ≡ read_buffer file.now numbers.old }
+{
+    code_of(read_job(file, numbers))
+}
+
+// The whole call as C has it.
+#[tactic(auto, unfolding(crate::specs::Call::call_code))]
 pub fn rembilung_verdict(sheet: &[u8], file: &[u8], report: &mut [u8]) -> u64
     ensures returned { result ≡ call_code sheet.now file.now report.old }
     ensures buffer { report.new ≡ call_buffer sheet.now file.now report.old }
 {
-    let n = sheet.len();
-    if n != 502 {
-        return code_of(Refusal {
-            number: SHEET_LENGTH,
-            place: n as u64,
-        });
-    }
-    let entries = sheet::entries_of(sheet);
-    let refused = sheet::examine(&entries);
-    if refused.number != 0 {
-        return code_of(refused);
-    }
-    let judgement = match jobfile::read(file) {
-        ReadJob::Scaffold(j) => judge_accepted(&entries, j),
-        ReadJob::Support(s) => judge_accepted_support(&entries, s),
-        ReadJob::Refused(refusal) => return code_of(refusal),
-    };
-    written_code(report::write(judgement, report))
+    code_of(verdict(sheet, file, report))
 }
 
 // The book of rows: its length, or a refusal (10, 11, 8 in bytes), with the buffer as it was.
+#[tactic(auto, unfolding(crate::specs::Call::write_book_code, crate::specs::Call::write_book_buffer))]
 pub fn rembilung_write_book(rows: &[u32], book: &mut [u8]) -> u64
     ensures returned { result ≡ write_book_code rows.now book.old }
     ensures buffer { book.new ≡ write_book_buffer rows.now book.old }
 {
-    written_code(bookfile::write(rows, book))
+    code_of(bookfile::write(rows, book))
 }
 
 // The rows of a book: how many there are, or a refusal (10, 9, 11, 8 in rows), with the rows as they were.
+#[tactic(auto, unfolding(crate::specs::Call::read_book_code, crate::specs::Call::read_book_buffer))]
 pub fn rembilung_read_book(book: &[u8], rows: &mut [u32]) -> u64
     ensures returned { result ≡ read_book_code book.now rows.old }
     ensures buffer { rows.new ≡ read_book_buffer book.now rows.old }
 {
-    written_code(bookfile::read(book, rows))
+    code_of(bookfile::read(book, rows))
 }

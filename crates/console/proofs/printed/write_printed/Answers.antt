@@ -1,26 +1,31 @@
 -- `write_printed` meets its contract. Assumes nothing.
-use borrow.Author.Rules.{rules}
-use Rattle.console.proofs.Returned.{length_way, report_way, refusal_way}
+use mathlib.Core.Path.{ap, ap₂, ◌∙◌}
+use lib.ListN.{length}
+use Rattle.report.specs.Refused.{written_over}
+use Rattle.console.proofs.Returned.{other_length, report_printed, refusal_printed}
 use Rattle.console.proofs.printed.write_printed.Goals as goal
 
-pub returns-then-size-ne502 : goal.returns-then-size-ne502
-returns-then-size-ne502 c =
-    let w = c.write_refused.ensures in
-    let a = c.args in
-    let b = length_way _ a.sheet.now a.file.now _ c.if-size-ne502.true c.least_of.ensures w.returned w.buffer in
-    record { within = b.0; returned = b.1.0; buffer = b.1.1 }
+pub returns-then-size-ne502-clause-returned : goal.returns-then-size-ne502-clause-returned
+returns-then-size-ne502-clause-returned c =
+    c.write_line.ensures.returned ∙ ap length (other_length _ c.args.sheet.now c.args.file.now c.args.out.now c.if-size-ne502.true)
 
-pub returns-then-code-lt4294967296 : goal.returns-then-code-lt4294967296
-returns-then-code-lt4294967296 c =
-    let v = c.rembilung_verdict-code.ensures in
-    let a = c.args in
-    let b = report_way _ a.sheet.now a.file.now _ (search rules) c.if-size-ne502.false v.returned v.buffer c.if-code-lt4294967296.true in
-    record { within = b.0; returned = b.1.0; buffer = b.1.1 }
+pub returns-then-size-ne502-clause-buffer : goal.returns-then-size-ne502-clause-buffer
+returns-then-size-ne502-clause-buffer c =
+    c.write_line.ensures.buffer ∙ ap (λ t. written_over t c.args.out.now) (other_length _ c.args.sheet.now c.args.file.now c.args.out.now c.if-size-ne502.true)
 
-pub returns : goal.returns
-returns c =
-    let w = c.write_refused-2.ensures in
-    let v = c.rembilung_verdict-code.ensures in
-    let a = c.args in
-    let b = refusal_way _ a.sheet.now a.file.now _ (search rules) c.if-size-ne502.false v.returned v.buffer c.if-code-lt4294967296.false w.returned w.buffer in
-    record { within = b.0; returned = b.1.0; buffer = b.1.1 }
+pub returns-in-Ok-clause-returned : goal.returns-in-Ok-clause-returned
+returns-in-Ok-clause-returned c = (report_printed _ c.args.sheet.now _ c.args.out.now c.told-out c.if-size-ne502.false c.in-Ok.ensures.returned).0
+
+pub returns-in-Ok-clause-buffer : goal.returns-in-Ok-clause-buffer
+returns-in-Ok-clause-buffer c =
+    c.in-Ok.ensures.buffer ∙ (report_printed _ c.args.sheet.now _ c.args.out.now c.told-out c.if-size-ne502.false c.in-Ok.ensures.returned).1
+
+pub returns-in-Err-clause-returned : goal.returns-in-Err-clause-returned
+returns-in-Err-clause-returned c =
+    let r = refusal_printed _ c.args.sheet.now _ c.args.out.now c.told-out c.if-size-ne502.false c.in-Err.ensures.returned in
+    c.write_line-in-Err.ensures.returned ∙ ap length r.0
+
+pub returns-in-Err-clause-buffer : goal.returns-in-Err-clause-buffer
+returns-in-Err-clause-buffer c =
+    let r = refusal_printed _ c.args.sheet.now _ c.args.out.now c.told-out c.if-size-ne502.false c.in-Err.ensures.returned in
+    c.write_line-in-Err.ensures.buffer ∙ ap₂ written_over r.0 (c.in-Err.ensures.buffer ∙ r.1)
