@@ -1,154 +1,87 @@
 // Judges the packed vectors of data/ and compares each part of every answer with the expected one.
 #![tactic(auto)]
 
-ghost use Rattle.std.specs.Prelude.{◌≡◌, ◌<◌, ◌≤◌, length, IfOk};
+ghost use Rattle.std.specs.Prelude.{◌≡◌, ◌^◌, ◌<◌, ◌≤◌, length};
 
+use basis::Refusal;
 use job::Job;
-use judge::Judged;
 use section5::{Heights, Judgement};
 use std::io::Read;
 use std::rt::Files;
-use std::{fs, io};
+use std::{array, fs, io};
 
-fn wide(b: u8) -> u64
-    ensures { result < 256 }
-{
-    b as u64
+// What a record shows of an answer, or that it cannot be read whole.
+#[derive(Clone, Copy, Debug, PartialEq, Eq)]
+enum Outcome {
+    Agrees,
+    Differs,
+    Cut,
 }
 
-// The 32 bits that begin at a place, low byte first; 0 where they do not all lie in the bytes.
-fn word_at(bytes: &[u8], at: usize) -> u64
-    ensures { result < 4294967296 }
-{
-    let n = bytes.len();
-    if n < 4 {
-        return 0;
+// The bytes that begin at a place; 0 where they are not all there.
+fn bytes_at<const N: usize>(bytes: &[u8], at: usize) -> [u8; N] {
+    match bytes.get(at..).and_then(|rest| rest.first_chunk()) {
+        Some(chunk) => *chunk,
+        None => [0; N],
     }
-    if n - 4 < at {
-        return 0;
-    }
-    let low = wide(bytes[at]) + 256 * wide(bytes[at + 1]);
-    low + 65536 * wide(bytes[at + 2]) + 16777216 * wide(bytes[at + 3])
 }
 
-// The 16 bits that begin at a place, low byte first; 0 where they do not both lie in the bytes.
-fn entry_at(bytes: &[u8], at: usize) -> u16 {
-    let n = bytes.len();
-    if n < 2 {
-        return 0;
-    }
-    if n - 2 < at {
-        return 0;
-    }
-    let entry = wide(bytes[at]) + 256 * wide(bytes[at + 1]);
-    entry as u16
+// The 32 bits that begin at a place, low byte first.
+fn word_at(bytes: &[u8], at: usize) -> u32 {
+    u32::from_le_bytes(bytes_at(bytes, at))
 }
 
-// The 512 entries that begin at a place.
+// The 512 entries that begin at a place, low byte first.
 fn entries(bytes: &[u8], from: usize) -> [u16; 512]
     requires { from ≤ 1024 }
     ensures { 512 ≡ length result }
 {
-    let mut sheet = [0u16; 512];
-    let mut k: usize = 0;
-    while k < 512 {
-        sheet[k] = entry_at(bytes, from + 2 * k);
-        k += 1;
-    }
-    sheet
+    array::from_fn(|k| u16::from_le_bytes(bytes_at(bytes, from + 2 * k)))
 }
 
 // The 25 numbers of a record of jobs.bin, after its line and its sheet.
 fn numbers(record: &[u8]) -> [u32; 25] {
-    let mut n = [0u32; 25];
-    let mut k: usize = 0;
-    while k < 25 {
-        n[k] = word_at(record, 8 + 4 * k) as u32;
-        k += 1;
-    }
-    n
+    array::from_fn(|k| word_at(record, 8 + 4 * k))
 }
 
-// 1 where there are heights, 0 for "none".
-fn given(heights: Heights) -> u64 {
+// Whether there are heights, 1 or 0 for "none", and the stability height and the permitted height.
+fn heights_of(heights: Heights) -> (u64, u64, u64) {
     match heights {
-        Heights::NoLine => 0,
-        Heights::Nowhere => 0,
-        Heights::Both(_, _) => 1,
-    }
-}
-
-fn stability_of(heights: Heights) -> u64 {
-    match heights {
-        Heights::NoLine => 0,
-        Heights::Nowhere => 0,
-        Heights::Both(stability, _) => stability,
-    }
-}
-
-fn permitted_of(heights: Heights) -> u64 {
-    match heights {
-        Heights::NoLine => 0,
-        Heights::Nowhere => 0,
-        Heights::Both(_, permitted) => permitted,
+        Heights::NoLine | Heights::Nowhere => (0, 0, 0),
+        Heights::Both(stability, permitted) => (1, stability, permitted),
     }
 }
 
 // The 31 parts of a judgement, in the order of a record's answer.
 fn parts_of(j: Judgement) -> [u64; 31] {
-    let v = j.verdicts;
-    let f = j.figures;
-    let h = j.heights;
-    [
-        0,
-        0,
-        wide(v[0]),
-        wide(v[1]),
-        wide(v[2]),
-        wide(v[3]),
-        wide(v[4]),
-        wide(v[5]),
-        wide(v[6]),
-        wide(v[7]),
-        wide(v[8]),
-        wide(v[9]),
-        wide(v[10]),
-        f[0],
-        f[1],
-        f[2],
-        f[3],
-        f[4],
-        f[5],
-        f[6],
-        f[7],
-        f[8],
-        f[9],
-        f[10],
-        given(h),
-        stability_of(h),
-        given(h),
-        permitted_of(h),
-        j.wk,
-        j.mw,
-        j.z,
-    ]
+    let (given, stability, permitted) = heights_of(j.heights);
+    let mut parts = [0; 31];
+    parts[2..13].copy_from_slice(&j.verdicts.map(u64::from));
+    parts[13..24].copy_from_slice(&j.figures);
+    parts[24..31].copy_from_slice(&[given, stability, given, permitted, j.wk, j.mw, j.z]);
+    parts
 }
 
-// After a refusal every part but its number and place counts as 0, whatever stands there.
-fn answer_of(judged: Judged) -> [u64; 31] {
-    let refusal = judged.refusal;
-    if refusal.number != 0 {
-        let mut answer = [0u64; 31];
-        answer[0] = refusal.number as u64;
-        answer[1] = refusal.place;
-        return answer;
+// After a refusal every part but its number and place counts as 0.
+fn answer_of(judged: Result<Judgement, Refusal>) -> [u64; 31] {
+    match judged {
+        Ok(judgement) => parts_of(judgement),
+        Err(refusal) => {
+            let mut answer = [0; 31];
+            answer[0] = u64::from(refusal.number());
+            answer[1] = refusal.place();
+            answer
+        }
     }
-    let judgement = judged.judgement;
-    parts_of(judgement)
 }
 
-fn print_height<R: Print>(rt: &R, k: u64) -> io::Result<()> {
+// The name of a part of an answer.
+fn print_name<R: Print>(rt: &R, k: usize) -> io::Result<()> {
     match k {
+        0 => print!(rt; " refusal"),
+        1 => print!(rt; " place"),
+        2..=12 => print!(rt; " verdict {}", k - 1),
+        13..=23 => print!(rt; " figure {}", k - 12),
         24 => print!(rt; " stability given"),
         25 => print!(rt; " stability"),
         26 => print!(rt; " permitted given"),
@@ -159,137 +92,75 @@ fn print_height<R: Print>(rt: &R, k: u64) -> io::Result<()> {
     }
 }
 
-// The name of a part of an answer.
-fn print_name<R: Print>(rt: &R, k: u64) -> io::Result<()> {
-    if k == 0 {
-        print!(rt; " refusal")
-    } else if k == 1 {
-        print!(rt; " place")
-    } else if k <= 12 {
-        let check = k - 1;
-        print!(rt; " verdict {check}")
-    } else if k <= 23 {
-        let check = k - 12;
-        print!(rt; " figure {check}")
-    } else {
-        print_height(rt, k)
-    }
-}
-
-// Names a part that differs, and before the first of a vector its line; answers 1 where this or one before differs.
-fn compare_part<R: Print>(
-    rt: &R,
-    name: &str,
-    line: u64,
-    k: u64,
-    found: u64,
-    expected: u64,
-    before: u64,
-) -> io::Result<u64>
-    requires { before ≤ 1 }
-    ensures { IfOk result (λ r. r ≤ 1) }
-{
-    if found == expected {
-        return Ok(before);
-    }
-    if before == 0 {
-        print!(rt; "{name}.txt line {line}:")?;
-    }
-    print_name(rt, k)?;
-    print!(rt; " is {found}, expected {expected};")?;
-    Ok(1)
-}
-
-// Compares the first parts of an answer with a record's, from a place on; answers 1 where one differs, else 0.
+// Compares parts of an answer with the words that a record expects from a place on; names its line and each part that differs.
 fn compare<R: Print>(
     rt: &R,
     name: &str,
+    found: &[u64],
     record: &[u8],
     from: usize,
-    parts: usize,
-    found: [u64; 31],
-) -> io::Result<u64>
-    requires { (from ≤ 1024) × (parts ≤ 31) }
-    ensures { IfOk result (λ r. r ≤ 1) }
-{
-    let line = word_at(record, 0);
-    let mut differ: u64 = 0;
-    for k in 0..parts {
-        let expected = word_at(record, from + 4 * k);
-        differ = compare_part(rt, name, line, k as u64, found[k], expected, differ)?;
+) -> io::Result<Outcome> {
+    let mut outcome = Outcome::Agrees;
+    let (words, _) = record.get(from..).unwrap_or(&[]).as_chunks();
+    for (k, (found, word)) in found.iter().zip(words).enumerate() {
+        let expected = u64::from(u32::from_le_bytes(*word));
+        if *found != expected {
+            if outcome == Outcome::Agrees {
+                let line = word_at(record, 0);
+                print!(rt; "{name}.txt line {line}:")?;
+            }
+            print_name(rt, k)?;
+            print!(rt; " is {found}, expected {expected};")?;
+            outcome = Outcome::Differs;
+        }
     }
-    if differ == 1 {
+    if outcome == Outcome::Differs {
         println!(rt; "")?;
     }
-    Ok(differ)
+    Ok(outcome)
 }
 
 // The sheet that a record names stands at the front of jobs.bin: T, then C.
-fn front_sheet(front: &[u8], which: u64) -> [u16; 512]
+fn front_sheet(front: &[u8], which: u32) -> [u16; 512]
     ensures { 512 ≡ length result }
 {
     if which == 0 {
-        return entries(front, 4);
+        entries(front, 4)
+    } else {
+        entries(front, 506)
     }
-    entries(front, 506)
 }
 
-// Judges the next record of jobs.bin: 0 where the answer is as expected, 1 where it differs, 2 where the file is cut.
-fn next_job<R: Print, F: Read>(rt: &R, from: &mut F, front: &[u8]) -> io::Result<u64>
-    ensures { IfOk result (λ r. r ≤ 2) }
-{
-    let mut record = [0u8; 232];
-    if from.read_exact(&mut record).is_err() {
-        return Ok(2);
-    }
-    let sheet = front_sheet(front, word_at(&record, 4));
-    let judged = judge::judge(&sheet[0..251], job::from_numbers(numbers(&record)));
-    compare(rt, "jobs", &record, 108, 31, answer_of(judged))
+// Judges a record of jobs.bin.
+fn judge_job<R: Print>(rt: &R, front: &[u8], record: &[u8]) -> io::Result<Outcome> {
+    let sheet = front_sheet(front, word_at(record, 4));
+    let judged = judge::judge(&sheet[0..251], Job::from(numbers(record)));
+    compare(rt, "jobs", &answer_of(judged), record, 108)
 }
 
 // Job J of the paper, with which every sheet is judged.
 fn job_j() -> Job {
-    job::from_numbers([
+    Job::from([
         1, 1, 105, 150, 180, 2, 3000, 3, 4, 2, 3000, 5000, 0, 300, 300, 1000, 1, 200, 1, 240, 1,
         8000, 4, 200, 2000,
     ])
 }
 
-// Judges the next record of sheets.bin, answering as next_job does.
-fn next_sheet<R: Print, F: Read>(rt: &R, from: &mut F) -> io::Result<u64>
-    ensures { IfOk result (λ r. r ≤ 2) }
-{
-    let mut record = [0u8; 1040];
-    if from.read_exact(&mut record).is_err() {
-        return Ok(2);
-    }
-    let n = word_at(&record, 4) as usize;
-    if 512 < n {
-        return Ok(2);
-    }
-    let sheet = entries(&record, 16);
-    let judged = judge::judge(&sheet[0..n], job_j());
-    compare(rt, "sheets", &record, 8, 2, answer_of(judged))
+// Judges a record of sheets.bin, of whose answer only the refusal is expected.
+fn judge_sheet<R: Print>(rt: &R, record: &[u8]) -> io::Result<Outcome> {
+    let sheet = entries(record, 16);
+    let Some(sheet) = sheet.get(..word_at(record, 4) as usize) else {
+        return Ok(Outcome::Cut);
+    };
+    let found = answer_of(judge::judge(sheet, job_j()));
+    compare(rt, "sheets", &found[..2], record, 8)
 }
 
-// The two files of records.
-#[derive(Clone, Copy)]
-enum Kind {
-    Jobs,
-    Sheets,
-}
-
-fn next<R: Print, F: Read>(rt: &R, kind: Kind, from: &mut F, front: &[u8]) -> io::Result<u64>
-    ensures { IfOk result (λ r. r ≤ 2) }
-{
-    match kind {
-        Kind::Jobs => next_job(rt, from, front),
-        Kind::Sheets => next_sheet(rt, from),
-    }
-}
-
-fn cut<R: Print>(rt: &R, name: &str, at: u64, count: u64) -> io::Result<()> {
-    println!(rt; "{name}.bin is cut: it names {count} records and has {at}")
+// The next bytes of a file.
+fn next<F: Read, const N: usize>(from: &mut F) -> io::Result<[u8; N]> {
+    let mut bytes = [0; N];
+    from.read_exact(&mut bytes[..])?;
+    Ok(bytes)
 }
 
 // The closing line, or what is wrong where the file goes on after its last record.
@@ -297,59 +168,69 @@ fn close<R: Print, F: Read>(
     rt: &R,
     name: &str,
     from: &mut F,
-    count: u64,
-    differ: u64,
+    count: u32,
+    differ: u32,
 ) -> io::Result<()> {
-    let mut more = [0u8; 1];
-    if from.read_exact(&mut more).is_ok() {
+    if next::<F, 1>(from).is_ok() {
         return println!(rt; "{name}.bin goes on after its last record");
     }
     println!(rt; "{name}: {count} judged, {differ} differ")
 }
 
-// Judges each record of a file whose front is read and begins with their count.
-fn judge_each<R: Print, F: Read>(
+// Judges each of so many records of N bytes, which follow one another in a file.
+fn judge_each<R: Print, F: Read, J: Fn(&[u8]) -> io::Result<Outcome>, const N: usize>(
     rt: &R,
-    kind: Kind,
     name: &str,
     from: &mut F,
-    front: &[u8],
-) -> io::Result<()> {
-    let count = word_at(front, 0);
-    let mut differ: u64 = 0;
+    count: u32,
+    judge: J,
+) -> io::Result<()>
+    requires callable { J.IsAlwaysCallable judge }
+    requires size { N < 2 ^ 63 }
+{
+    let mut differ = 0;
     for at in 0..count {
-        let step = next(rt, kind, from, front)?;
-        if step == 2 {
-            return cut(rt, name, at, count);
+        let outcome = match next::<F, N>(from) {
+            Ok(record) => judge(&record[..])?,
+            Err(_) => Outcome::Cut,
+        };
+        match outcome {
+            Outcome::Agrees => {}
+            Outcome::Differs => differ += 1,
+            Outcome::Cut => {
+                return println!(rt; "{name}.bin is cut: it names {count} records and has {at}");
+            }
         }
-        differ += step;
     }
     close(rt, name, from, count, differ)
 }
 
-fn jobs<R: Files + Print>(rt: &R) -> io::Result<()> {
-    let Ok(mut file) = fs::open(rt, "jobs.bin") else {
-        return println!(rt; "jobs.bin is missing");
+// Judges a file whose front begins with the count of its records, of N bytes each, and ends in what is named last.
+fn judge_file<
+    R: Files + Print,
+    J: Fn(&[u8], &[u8]) -> io::Result<Outcome>,
+    const FRONT: usize,
+    const N: usize,
+>(rt: &R, name: &str, path: &str, last: &str, judge: J) -> io::Result<()>
+    requires callable { J.IsAlwaysCallable judge }
+    requires sizes { (FRONT < 2 ^ 63) × (N < 2 ^ 63) }
+{
+    let Ok(mut file) = fs::open(rt, path) else {
+        return println!(rt; "{path} is missing");
     };
-    let mut front = [0u8; 1008];
-    if file.read_exact(&mut front).is_err() {
-        return println!(rt; "jobs.bin is cut inside its sheets");
-    }
-    judge_each(rt, Kind::Jobs, "jobs", &mut file, &front)
-}
-
-fn sheets<R: Files + Print>(rt: &R) -> io::Result<()> {
-    let Ok(mut file) = fs::open(rt, "sheets.bin") else {
-        return println!(rt; "sheets.bin is missing");
+    let Ok(front) = next::<_, FRONT>(&mut file) else {
+        return println!(rt; "{path} is cut inside its {last}");
     };
-    let mut front = [0u8; 4];
-    if file.read_exact(&mut front).is_err() {
-        return println!(rt; "sheets.bin is cut inside its count");
-    }
-    judge_each(rt, Kind::Sheets, "sheets", &mut file, &front)
+    judge_each::<_, _, _, N>(rt, name, &mut file, word_at(&front, 0), |record| {
+        judge(&front, record)
+    })
 }
 
 fn main(rt: HostRuntime) -> io::Result<()> {
-    jobs(&rt)?;
-    sheets(&rt)
+    judge_file::<_, _, 1008, 232>(&rt, "jobs", "jobs.bin", "sheets", |front, record| {
+        judge_job(&rt, front, record)
+    })?;
+    judge_file::<_, _, 4, 1040>(&rt, "sheets", "sheets.bin", "count", |_, record| {
+        judge_sheet(&rt, record)
+    })
 }
