@@ -7,3 +7,4 @@ pub mod Limits
 pub mod Ceil
 pub mod Most
 pub mod Keep
+pub mod AsRead

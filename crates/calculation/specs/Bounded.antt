@@ -1,7 +1,7 @@
 -- How great a load and a column are: what the products of their parts need to fit 64 bits. A load may be that of sixteen jobs one above the other.
 -- Assumes nothing.
 use Rattle.std.specs.Prelude.{ℕ, ◌≤◌, ◌<◌, ◌≡◌}
-use Rattle.calculation.specs.Parts.{Load, Column, Effects}
+use Rattle.calculation.specs.Parts.{Load, Column}
 
 -- the parts of a load are at most d and v
 pub record Within (l : Load) (d v : ℕ) : Type 0 where
@@ -26,8 +26,3 @@ pub record Proper (c : Column) : Type 0 where
   pub area_most : c.area ≤ 489
   pub modulus_pos : 0 < c.modulus
   pub modulus_most : c.modulus ≤ 5130
-
--- the wind and the force that the products of a row of checks are of
-pub record Moderate (e : Effects) : Type 0 where
-  pub wk : e.wk ≤ 17472
-  pub n : e.n ≤ 1543200

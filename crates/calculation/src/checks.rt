@@ -12,7 +12,7 @@ use crate::effects::Effects;
 use crate::figures::{
     face_of, ledger_load, ledger_moment, slip_of, tie_force, transom_load, transom_moment,
 };
-use job::standing::StandingJob;
+use job::bounded::BoundedJob;
 use kinds::{Enclosure, Soil};
 use section5::CHECKS;
 
@@ -38,39 +38,39 @@ fn deflects_at(load: u64, span: u64, scale: u64) -> bool
     15 * load <= scale && load * span <= 10 * scale
 }
 
-fn check1_of(j: &StandingJob) -> u8
+fn check1_of(j: &BoundedJob) -> u8
     ensures { result ≡ verdict (check1 j.now) }
 {
     verdict_of(transom_moment(j) <= 205 * modulus_of(j.tube))
 }
 
-fn check2_of(j: &StandingJob) -> u8
+fn check2_of(j: &BoundedJob) -> u8
     ensures { result ≡ verdict (check2 j.now) }
 {
     let lb = u64::from(j.lb);
     verdict_of(deflects_at(transom_load(j), lb, 1536 * stiffness_of(j.tube)))
 }
 
-fn check3_of(j: &StandingJob) -> u8
+fn check3_of(j: &BoundedJob) -> u8
     ensures { result ≡ verdict (check3 j.now) }
 {
     verdict_of(ledger_moment(j) <= 205 * modulus_of(j.tube))
 }
 
-fn check4_of(j: &StandingJob) -> u8
+fn check4_of(j: &BoundedJob) -> u8
     ensures { result ≡ verdict (check4 j.now) }
 {
     let la = u64::from(j.la);
     verdict_of(deflects_at(ledger_load(j), la, 4000000 * stiffness_of(j.tube)))
 }
 
-fn check5_of(j: &StandingJob) -> u8
+fn check5_of(j: &BoundedJob) -> u8
     ensures { result ≡ verdict (check5 j.now) }
 {
     verdict_of(slip_of(j) <= 8000)
 }
 
-fn check6_of(j: &StandingJob) -> u8
+fn check6_of(j: &BoundedJob) -> u8
     ensures { result ≡ verdict (check6 j.now) }
 {
     let step = u64::from(j.step);
@@ -79,7 +79,7 @@ fn check6_of(j: &StandingJob) -> u8
 }
 
 // Check 8 is not due (4.3.2).
-pub fn not_due_of(j: &StandingJob) -> bool
+pub fn not_due_of(j: &BoundedJob) -> bool
     ensures { result ≡ not_due j.now }
 {
     match j.enclosure {
@@ -88,7 +88,7 @@ pub fn not_due_of(j: &StandingJob) -> bool
     }
 }
 
-fn check9_of(j: &StandingJob, e: Effects) -> u8
+fn check9_of(j: &BoundedJob, e: Effects) -> u8
     ensures { result ≡ verdict (check9 j.now e.wk) }
 {
     verdict_of(tie_force(j, e) <= u64::from(j.capacity))
@@ -104,20 +104,20 @@ pub fn base_bears(n: u64) -> bool
 // Check 11 of a force.
 // requires: judge and formwork show the bounds by examining the job.
 pub fn ground_bears(soil: Soil, strength: u32, pad: u32, n: u64) -> bool
-    requires { (strength ≤ 2000) × (pad ≤ 10000) × (n ≤ 1543200) }
+    requires { (strength ≤ 2000) × (pad ≤ 10000) }
     ensures { result ≡ ground_bears (soil_number soil) strength pad n }
 {
-    100 * n <= soil_factor(soil) * u64::from(strength) * u64::from(pad)
+    n <= soil_factor(soil) * u64::from(strength) * u64::from(pad) / 100
 }
 
-fn check11_of(j: &StandingJob, e: Effects) -> u8
+fn check11_of(j: &BoundedJob, e: Effects) -> u8
     ensures { result ≡ verdict (ground_bears j.now.soil j.now.strength j.now.pad e.n) }
 {
     verdict_of(ground_bears(j.soil, j.strength, j.pad, e.n))
 }
 
 // The row of eleven numbers, the form that the paper requires.
-pub fn verdicts_of(c: Column, j: &StandingJob, e: Effects) -> [u8; CHECKS]
+pub fn verdicts_of(c: Column, j: &BoundedJob, e: Effects) -> [u8; CHECKS]
     ensures { result ≡ verdicts c j.now e.wk e.mw e.n e.nw e.not_due }
 {
     let n = e.n;

@@ -5,7 +5,7 @@ ghost use Rattle.calculation.specs.Whole.{effects};
 use crate::checks::not_due_of;
 use crate::figures::{shape_of, wind_moment, wind_pressure};
 use crate::loads::{deck_load, force_of, force_wind_of, raised_by};
-use job::standing::StandingJob;
+use job::bounded::BoundedJob;
 use std::marker::Model;
 
 // wk, Mw, N, Nw, and whether check 8 is not due.
@@ -19,20 +19,20 @@ pub struct Effects {
 }
 
 impl Model for Effects {
+    ghost use Rattle.std.specs.Prelude.{◌≤◌};
     ghost use Rattle.calculation.specs.Parts.{Effects};
-    ghost use Rattle.calculation.specs.Bounded.{Moderate};
 
     ghost Value = { Effects };
 
     ghost view = { λ e. record { wk = e.wk; mw = e.mw; n = e.n; nw = e.nw; not_due = e.not_due } };
 
-    ghost invariant = { λ e. Moderate record { wk = e.wk; mw = e.mw; n = e.n; nw = e.nw; not_due = e.not_due } };
+    ghost invariant = { λ e. e.wk ≤ 17472 };
 
     ghost inverse = { λ e. record { wk = e.wk; mw = e.mw; n = e.n; nw = e.nw; not_due = e.not_due } };
 }
 
 // Of a job, its structure up to its own height.
-pub fn effects_of(j: &StandingJob) -> Effects
+pub fn effects_of(j: &BoundedJob) -> Effects
     ensures { result ≡ effects j.now }
 {
     let shape = shape_of(j.enclosure, j.wall, j.shield);

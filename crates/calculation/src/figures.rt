@@ -6,7 +6,7 @@ ghost use Rattle.calculation.specs.Whole.{shape, wind_pressure, wind_moment, fig
 
 use crate::constants::{board_of, factor_of, radius_of, shape_unit, stiffness_of, tie_base};
 use crate::effects::Effects;
-use job::standing::StandingJob;
+use job::bounded::BoundedJob;
 use kinds::{Enclosure, Wall};
 use section5::CHECKS;
 
@@ -51,7 +51,7 @@ pub fn rounded_tenths(t: u64) -> u64
 }
 
 // Z, in tenths.
-pub fn column_slenderness(j: &StandingJob) -> u64
+pub fn column_slenderness(j: &BoundedJob) -> u64
     ensures { Is result (column_slenderness j.now) 2930 }
 {
     let step = u64::from(j.step);
@@ -62,14 +62,14 @@ pub fn column_slenderness(j: &StandingJob) -> u64
 }
 
 // The slenderness of check 6, up.
-fn slenderness_of(j: &StandingJob) -> u64
+fn slenderness_of(j: &BoundedJob) -> u64
     ensures { result ≡ slenderness j.now }
 {
     let step = u64::from(j.step);
     (factor_of(j.family, j.lb, j.ties) * step).div_ceil(radius_of(j.tube))
 }
 
-pub(crate) fn transom_moment(j: &StandingJob) -> u64
+pub(crate) fn transom_moment(j: &BoundedJob) -> u64
     ensures { Is result (transom_moment j.now) 4400000 }
 {
     let lb = u64::from(j.lb);
@@ -78,7 +78,7 @@ pub(crate) fn transom_moment(j: &StandingJob) -> u64
     ((12 * board_of(j.boards) + 14 * q) * la * (lb * lb)).div_ceil(160000)
 }
 
-pub(crate) fn transom_load(j: &StandingJob) -> u64
+pub(crate) fn transom_load(j: &BoundedJob) -> u64
     ensures { Is result (transom_load j.now) 8000000000000 }
 {
     let lb = u64::from(j.lb);
@@ -88,14 +88,14 @@ pub(crate) fn transom_load(j: &StandingJob) -> u64
 }
 
 // The transom's deflection, µm.
-fn transom_deflection(j: &StandingJob) -> u64
+fn transom_deflection(j: &BoundedJob) -> u64
     ensures { result ≡ transom_deflection j.now }
 {
     let lb = u64::from(j.lb);
     (1000 * (transom_load(j) * lb)).div_ceil(1536 * stiffness_of(j.tube))
 }
 
-pub(crate) fn ledger_moment(j: &StandingJob) -> u64
+pub(crate) fn ledger_moment(j: &BoundedJob) -> u64
     ensures { Is result (ledger_moment j.now) 5000000 }
 {
     let la = u64::from(j.la);
@@ -104,7 +104,7 @@ pub(crate) fn ledger_moment(j: &StandingJob) -> u64
     ((2100 * board_of(j.boards) + 2982 * q) * (la * la) * lb).div_ceil(40000000)
 }
 
-pub(crate) fn ledger_load(j: &StandingJob) -> u64
+pub(crate) fn ledger_load(j: &BoundedJob) -> u64
     ensures { Is result (ledger_load j.now) 21000000000000000 }
 {
     let la = u64::from(j.la);
@@ -114,7 +114,7 @@ pub(crate) fn ledger_load(j: &StandingJob) -> u64
 }
 
 // The ledger's deflection, µm.
-fn ledger_deflection(j: &StandingJob) -> u64
+fn ledger_deflection(j: &BoundedJob) -> u64
     ensures { result ≡ ledger_deflection j.now }
 {
     let la = u64::from(j.la);
@@ -122,7 +122,7 @@ fn ledger_deflection(j: &StandingJob) -> u64
 }
 
 // N.
-pub(crate) fn slip_of(j: &StandingJob) -> u64
+pub(crate) fn slip_of(j: &BoundedJob) -> u64
     ensures { Is result (slip j.now) 26000 }
 {
     let q = u64::from(j.q);
@@ -140,7 +140,7 @@ pub(crate) fn face_of(ties: u32, step: u32, la: u32) -> u64
 }
 
 // N.
-pub(crate) fn tie_force(j: &StandingJob, e: Effects) -> u64
+pub(crate) fn tie_force(j: &BoundedJob, e: Effects) -> u64
     ensures { Is result (tie_force j.now e.wk) 900000 }
 {
     let face = face_of(j.ties, j.step, j.la);
@@ -148,7 +148,7 @@ pub(crate) fn tie_force(j: &StandingJob, e: Effects) -> u64
 }
 
 // The figure of each check.
-pub fn figures_of(j: &StandingJob, e: Effects) -> [u64; CHECKS]
+pub fn figures_of(j: &BoundedJob, e: Effects) -> [u64; CHECKS]
     ensures { result ≡ figures j.now e.wk e.n e.nw }
 {
     [

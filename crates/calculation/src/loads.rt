@@ -6,7 +6,7 @@ ghost use Rattle.calculation.specs.Whole.{deck, fittings, deck_live, deck_load, 
 ghost use Rattle.calculation.specs.Bounded.{Within, IsLoad};
 
 use crate::constants::{board_of, overhang_of, rail_of};
-use job::standing::StandingJob;
+use job::bounded::BoundedJob;
 use kinds::Family;
 use std::marker::Model;
 
@@ -39,7 +39,7 @@ fn deck_of(family: Family, lb: u32) -> u64
 }
 
 // G2.
-fn fittings_of(j: &StandingJob) -> u64
+fn fittings_of(j: &BoundedJob) -> u64
     ensures { Is result (fittings j.now) 280000000 }
 {
     let la = u64::from(j.la);
@@ -52,14 +52,14 @@ fn fittings_of(j: &StandingJob) -> u64
 }
 
 // L.
-fn deck_live(j: &StandingJob) -> u64
+fn deck_live(j: &BoundedJob) -> u64
     ensures { Is result (deck_live j.now) 1110000000 }
 {
     u64::from(j.total) * u64::from(j.la) * deck_of(j.family, j.lb)
 }
 
 // What a job's pole carries beside the structure.
-pub fn deck_load(j: &StandingJob) -> Load
+pub fn deck_load(j: &BoundedJob) -> Load
     ensures { IsLoad result (deck_load j.now) 280000000 1110000000 }
 {
     Load {

@@ -17,10 +17,10 @@ use calculation::loads::{Load, force_of, force_wind_of};
 use section5::{CHECKS, Heights, Judgement};
 use sheet::standing::StandingSheet;
 use support::Support;
-use support::standing::StandingSupport;
+use support::bounded::BoundedSupport;
 
 // What the pole carries, in 1/20,000 N.
-fn load_of(s: &StandingSupport) -> Load
+fn load_of(s: &BoundedSupport) -> Load
     ensures { IsLoad result (load s.now) 1200000000 1200000000 }
 {
     Load {
@@ -30,14 +30,14 @@ fn load_of(s: &StandingSupport) -> Load
 }
 
 // wk, N/m².
-fn pressure_of(s: &StandingSupport) -> u64
+fn pressure_of(s: &BoundedSupport) -> u64
     ensures { Is result (wk s.now) 17472 }
 {
     wind_pressure(s.exposure, 100 * u64::from(s.shape), s.wind)
 }
 
 // Z, in tenths.
-fn slenderness_of(s: &StandingSupport) -> u64
+fn slenderness_of(s: &BoundedSupport) -> u64
     ensures { Is result (column_slenderness s.now) 2930 }
 {
     let length = u64::from(s.step) + 2 * u64::from(s.overhang);
@@ -45,8 +45,7 @@ fn slenderness_of(s: &StandingSupport) -> u64
 }
 
 // The row of eleven, from the column, Mw, N and Nw; 0 where a check does not apply.
-fn verdicts_of(c: Column, s: &StandingSupport, m: u64, n: u64, nw: u64) -> [u8; CHECKS]
-    requires { n ≤ 1543200 }
+fn verdicts_of(c: Column, s: &BoundedSupport, m: u64, n: u64, nw: u64) -> [u8; CHECKS]
     ensures { result ≡ verdicts c s.now m n nw }
 {
     let v7 = verdict_of(bears_of(c, n));
@@ -57,7 +56,7 @@ fn verdicts_of(c: Column, s: &StandingSupport, m: u64, n: u64, nw: u64) -> [u8; 
 }
 
 // The judgement of a sheet and a support of which nothing is refused.
-pub fn judge_accepted_support(sheet: &StandingSheet<'_>, s: &StandingSupport) -> Judgement
+pub fn judge_accepted_support(sheet: &StandingSheet<'_>, s: &BoundedSupport) -> Judgement
     ensures { result ≡ judgement s.now sheet.now }
 {
     let w = pressure_of(s);
@@ -82,6 +81,6 @@ pub fn judge_support(sheet: &[u16], s: Support) -> Result<Judgement, Refusal>
     ensures { result ≡ answer sheet.now s }
 {
     let sheet = StandingSheet::try_from(sheet)?;
-    let s = StandingSupport::try_from(s)?;
+    let s = BoundedSupport::try_from(s)?;
     Ok(judge_accepted_support(&sheet, &s))
 }

@@ -7,7 +7,7 @@ use lib.Dec.{T, eqb, eqb→eq, leb, lit≤}
 use Rattle.basis.specs.Range.{within}
 use Rattle.basis.proofs.Tests.{either_elim, within_le}
 use Rattle.job.specs.declared.Job.{Job}
-use Rattle.job.specs.Ranges.{lb_stands, height_stands, shield_stands, geometry, loads, wind, ground, ranges}
+use Rattle.job.specs.Ranges.{lb_stands, height_stands, shield_stands, ranges}
 use Rattle.job.specs.Rows.{Inside, Stands}
 use Rattle.job.specs.Bounds.{Bounds}
 
@@ -19,7 +19,6 @@ wider : (lo hi lo' hi' x : ℕ) → T (leb lo' lo) → T (leb hi hi') → T (wit
 wider lo hi lo' hi' x s t w = let h = within_le lo hi x w in (le_trans (lit≤ s) h.0, le_trans h.1 (lit≤ t))
 
 lb_within : (family lb : ℕ) → T (lb_stands family lb) → (60 ≤ lb) × (lb ≤ 155)
-unfolding lb_stands
 lb_within family lb =
     cond_elim (eqb family 1) _ _
     (either_elim (eqb lb 105) _ (one 105 tt) (either_elim (eqb lb 130) _ (one 130 tt) (one 155 tt)))
@@ -29,17 +28,15 @@ lb_within family lb =
     one n t e = rw (eqb→eq lb n e) (within_le 60 155 n t)
 
 height_within : (family height : ℕ) → T (height_stands family height) → (1 ≤ height) × (height ≤ 5000)
-unfolding height_stands
 height_within family height = cond_elim (eqb family 1) _ _ (within_le 1 5000 height) (wider 1 2400 1 5000 height tt tt)
 
 shield_within : (enclosure shield : ℕ) → T (shield_stands enclosure shield) → (1 ≤ shield) × (shield ≤ 2000)
-unfolding shield_stands
 shield_within enclosure shield =
     cond_elim (eqb enclosure 1) _ _ (within_le 1 2000 shield)
     (cond_elim (eqb enclosure 2) _ _ (wider 300 700 1 2000 shield tt tt) (wider 1 1000 1 2000 shield tt tt))
 
 pub bounds : (j : Job) → Stands j → Bounds j
-unfolding Inside ranges geometry loads wind ground
+unfolding Inside ranges
 bounds j h =
     let i = h.agrees.inside in
     record {

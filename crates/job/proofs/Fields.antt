@@ -1,38 +1,40 @@
--- What is true of a job that stands: its kinds are numbers of kinds, and its fields are bounded.
+-- A job that stands is read as itself, each of its kinds being some kind's number.
 -- Assumes nothing.
-use mathlib.Core.Path.{◌≡◌}
+use mathlib.Core.Path.{◌≡◌, refl}
 use Prim.Native.Nat.{◌≤◌}
 use Rattle.basis.proofs.Tests.{within_le}
+use Rattle.kinds.proofs.Read.{family_own, tube_own, boards_own, enclosure_own, wall_own, soil_own}
 use Rattle.job.specs.declared.Job.{Job}
-use Rattle.job.specs.Ranges.{geometry, loads, wind, ground, ranges}
+use Rattle.job.specs.Ranges.{ranges}
 use Rattle.job.specs.Rows.{Inside, Stands}
-use Rattle.job.specs.Standing.{Standing}
-use Rattle.job.proofs.Bounds.{bounds}
+use Rattle.job.specs.Read.{as_read}
 
 module _ {j : Job} (h : Stands j) where
-  pub family_is : (1 ≤ j.family) × (j.family ≤ 2)
-  unfolding Inside ranges geometry
+  family_is : (1 ≤ j.family) × (j.family ≤ 2)
+  unfolding Inside ranges
   family_is = within_le 1 2 j.family (h.agrees.inside 1)
 
-  pub tube_is : (1 ≤ j.tube) × (j.tube ≤ 2)
-  unfolding Inside ranges geometry
+  tube_is : (1 ≤ j.tube) × (j.tube ≤ 2)
+  unfolding Inside ranges
   tube_is = within_le 1 2 j.tube (h.agrees.inside 2)
 
-  pub boards_is : (1 ≤ j.boards) × (j.boards ≤ 3)
-  unfolding Inside ranges geometry loads
+  boards_is : (1 ≤ j.boards) × (j.boards ≤ 3)
+  unfolding Inside ranges
   boards_is = within_le 1 3 j.boards (h.agrees.inside 8)
 
-  pub enclosure_is : (1 ≤ j.enclosure) × (j.enclosure ≤ 3)
-  unfolding Inside ranges geometry loads wind
+  enclosure_is : (1 ≤ j.enclosure) × (j.enclosure ≤ 3)
+  unfolding Inside ranges
   enclosure_is = within_le 1 3 j.enclosure (h.agrees.inside 17)
 
-  pub wall_is : (1 ≤ j.wall) × (j.wall ≤ 2)
-  unfolding Inside ranges geometry loads wind
+  wall_is : (1 ≤ j.wall) × (j.wall ≤ 2)
+  unfolding Inside ranges
   wall_is = within_le 1 2 j.wall (h.agrees.inside 19)
 
-  pub soil_is : (1 ≤ j.soil) × (j.soil ≤ 5)
-  unfolding Inside ranges geometry loads wind ground
+  soil_is : (1 ≤ j.soil) × (j.soil ≤ 5)
+  unfolding Inside ranges
   soil_is = within_le 1 5 j.soil (h.agrees.inside 23)
 
-  pub standing : {k : Job} → k ≡ j → Standing k
-  standing e = rw e (record { stands = h; bounds = bounds j h })
+  pub read_own : as_read j ≡ j
+  read_own =
+      rw (family_own j.family family_is.0 family_is.1, tube_own j.tube tube_is.0 tube_is.1, boards_own j.boards boards_is.0 boards_is.1, enclosure_own j.enclosure enclosure_is.0 enclosure_is.1, wall_own j.wall wall_is.0 wall_is.1, soil_own j.soil soil_is.0 soil_is.1)
+      refl

@@ -16,7 +16,7 @@ use Rattle.basis.proofs.Tests.{cases, within_le}
 use Rattle.basis.proofs.Lowest.{lowest_none, lowest_is, lowest_every, set_passes}
 use Rattle.basis.proofs.Rows.{refused_is, unrefused}
 use Rattle.job.specs.declared.Job.{Job}
-use Rattle.job.specs.Ranges.{height_stands, geometry, loads, wind, ground, ranges, outside}
+use Rattle.job.specs.Ranges.{height_stands, ranges, outside}
 use Rattle.job.specs.Job.{job_of, numbers}
 use Rattle.job.specs.Examine.{wall_refusal, agreement_refusal, examination}
 use Rattle.job.specs.Rows.{Inside, Outside, Agrees, Row, Stands, Told}
@@ -24,7 +24,7 @@ use Rattle.job.specs.Rows.{Inside, Outside, Agrees, Row, Stands, Told}
 module _ (j : Job) where
   -- a family other than 1 is 2
   single : Inside j 1 → (j.family ≡ 1 → ⊥) → j.family ≡ 2
-  unfolding Inside ranges geometry
+  unfolding Inside ranges
   single i h = let w = within_le 1 2 j.family i in omega (arith, w.0, w.1)
 
   -- what is left to refuse of a job whose fields are in their ranges, and of one whose fields agree
@@ -95,7 +95,7 @@ stood j e f = unrefused_stands j (sym e ∙ f)
 
 -- a job that stands does so at every height that field 7 allows
 pub stands_at : (j : Job) (H : ℕ) → Stands j → Inside (job_of (set (numbers j) 6 H)) 7 → Stands (job_of (set (numbers j) 6 H))
-unfolding job_of numbers Inside ranges geometry loads wind ground
+unfolding job_of numbers Inside ranges
 stands_at j H s i =
     record {
       agrees = record { inside = set_passes (true ∷ ranges j) 7 (height_stands j.family H) i s.agrees.inside; layers = s.agrees.layers; live = s.agrees.live };

@@ -4,4 +4,4 @@ pub mod Examine
 pub mod Rows
 pub mod Bounds
 pub mod JobJ
-pub mod Standing
+pub mod Read

@@ -1,7 +1,7 @@
 // A scaffold job: its 25 numbers by name, and what about them is refused (refusals 3, 4 and 5).
 #![tactic(auto)]
 
-pub mod standing;
+pub mod bounded;
 
 ghost use Rattle.std.specs.Prelude.{◌≡◌};
 ghost use Rattle.basis.specs.Range.{lowest};

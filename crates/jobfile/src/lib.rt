@@ -14,9 +14,9 @@ ghost use Rattle.jobfile.specs.Write.{file_written, file_left};
 use basis::{Refusal, ensure};
 use groups::{number_at, numbers_length, read_numbers, write_numbers};
 use job::Job;
-use job::standing::StandingJob;
+use job::bounded::BoundedJob;
 use support::Support;
-use support::standing::StandingSupport;
+use support::bounded::BoundedSupport;
 
 // How many numbers a scaffold's job has, and a support.
 pub const JOB_NUMBERS: usize = 25;
@@ -34,8 +34,8 @@ pub const BEGINNING_LENGTH: usize = 126;
 // The job of a file, a scaffold's or a support.
 #[derive(Clone, Copy)]
 pub enum FileJob {
-    Scaffold(StandingJob),
-    Support(StandingSupport),
+    Scaffold(BoundedJob),
+    Support(BoundedSupport),
 }
 
 // A first number of 3 marks a support.

@@ -13,12 +13,12 @@ use calculation::figures::{column_slenderness, figures_of};
 use calculation::heights::{height_count, heights_of};
 use calculation::loads::deck_load;
 use job::Job;
-use job::standing::StandingJob;
+use job::bounded::BoundedJob;
 use section5::Judgement;
 use sheet::standing::StandingSheet;
 
 // The judgement of a sheet and a job of which nothing is refused.
-pub fn judge_accepted(sheet: &StandingSheet<'_>, j: &StandingJob) -> Judgement
+pub fn judge_accepted(sheet: &StandingSheet<'_>, j: &BoundedJob) -> Judgement
     ensures { result ≡ judgement j.now sheet.now }
 {
     let e = effects_of(j);
@@ -40,6 +40,6 @@ pub fn judge(sheet: &[u16], j: Job) -> Result<Judgement, Refusal>
     ensures { result ≡ answer sheet.now j }
 {
     let sheet = StandingSheet::try_from(sheet)?;
-    let j = StandingJob::try_from(j)?;
+    let j = BoundedJob::try_from(j)?;
     Ok(judge_accepted(&sheet, &j))
 }

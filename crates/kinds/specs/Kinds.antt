@@ -1,6 +1,6 @@
--- The number of each kind, as the papers number them, and what reading such a number gives.
+-- The number of each kind, as the papers number them, and the kind of each number.
 -- Assumes nothing.
-use Rattle.std.specs.Prelude.{ℕ, ◌≡◌, ◌≤◌, refl, cond, eqb, Result, MatchResult, IsOk}
+use Rattle.std.specs.Prelude.{ℕ, ◌≡◌, refl, cond, eqb, leb}
 use Rattle.kinds.specs.declared.Family.{Family}
 use Rattle.kinds.specs.declared.Family.TheVariants.{DoubleRow, SingleRow}
 use Rattle.kinds.specs.declared.Tube.{Tube}
@@ -13,7 +13,6 @@ use Rattle.kinds.specs.declared.Wall.{Wall}
 use Rattle.kinds.specs.declared.Wall.TheVariants as Walled
 use Rattle.kinds.specs.declared.Soil.{Soil}
 use Rattle.kinds.specs.declared.Soil.TheVariants.{Gravel, Sand, Fill, Clay, Rock}
-use Rattle.kinds.specs.declared.UnknownKind.{UnknownKind}
 
 -- 1 of a scaffold's numbers
 abbrev pub family_number : Family → ℕ
@@ -50,11 +49,7 @@ soil_number Fill = 3
 soil_number Clay = 4
 soil_number Rock = 5
 
--- a number from 1 to the last is some kind's; the result is the kind of the number, or an error with it
-abbrev pub KindOf : {K : Type 0} → (K → ℕ) → ℕ → ℕ → Result K UnknownKind → Type 0
-KindOf number last n r = (1 ≤ n → n ≤ last → IsOk r) × MatchResult r (λ k. number k ≡ n) (λ e. e.0 ≡ n)
-
--- the kind of a number; of a number that none has, the last
+-- the kind of a number, as the tables of document 01 read it: of a number that none has, the last, but soil 0 the first
 abbrev pub family_of : ℕ → Family
 family_of n = cond (eqb n 1) DoubleRow SingleRow
 
@@ -71,7 +66,7 @@ abbrev pub wall_of : ℕ → Wall
 wall_of n = cond (eqb n 1) Walled.Closed Walled.Open
 
 abbrev pub soil_of : ℕ → Soil
-soil_of n = cond (eqb n 1) Gravel (cond (eqb n 2) Sand (cond (eqb n 3) Fill (cond (eqb n 4) Clay Rock)))
+soil_of n = cond (leb n 1) Gravel (cond (eqb n 2) Sand (cond (eqb n 3) Fill (cond (eqb n 4) Clay Rock)))
 
 -- each kind's number is its own
 pub family_back : (k : Family) → family_of (family_number k) ≡ k

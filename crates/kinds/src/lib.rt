@@ -2,10 +2,7 @@
 #![tactic(auto)]
 
 ghost use Rattle.std.specs.Prelude.{◌≡◌};
-ghost use Rattle.kinds.specs.Kinds.{KindOf, family_number, tube_number, boards_number, enclosure_number, wall_number, soil_number};
-
-use std::error::Error;
-use std::fmt;
+ghost use Rattle.kinds.specs.Kinds.{family_number, tube_number, boards_number, enclosure_number, wall_number, soil_number, family_of, tube_of, boards_of, enclosure_of, wall_of, soil_of};
 
 // How many rows of poles a scaffold stands on.
 #[derive(Clone, Copy, Debug, PartialEq, Eq)]
@@ -54,104 +51,74 @@ pub enum Soil {
     Rock = 5,
 }
 
-// A number that no kind has.
-#[derive(Clone, Copy, Debug, PartialEq, Eq)]
-pub struct UnknownKind(pub u32);
+// A number is read as the tables of document 01 read it, which ask for the first kinds and give every other number what the last has: examining a job refuses a number that no kind has before anything is built on it. Each kind has these conversions by hand: an impl that a macro of its own writes is refused, and a generic one would need each kind's table all the same.
+impl From<u32> for Family {
+    ghost from_gives = { λ number kind. kind ≡ family_of number };
 
-impl fmt::Display for UnknownKind {
-    fn fmt<W: fmt::Write>(&self, f: &mut fmt::Formatter<W>) -> fmt::Result {
-        write!(f, "no kind has the number {}", self.0)
-    }
-}
-
-impl Error for UnknownKind {}
-
-// Each kind has these conversions by hand: an impl that a macro of its own writes is refused, and a generic one would need each kind's table all the same.
-impl TryFrom<u32> for Family {
-    type Error = UnknownKind;
-
-    ghost try_from_gives = { KindOf family_number 2 };
-
-    fn try_from(number: u32) -> Result<Self, UnknownKind> {
+    fn from(number: u32) -> Family {
         match number {
-            1 => Ok(Family::DoubleRow),
-            2 => Ok(Family::SingleRow),
-            _ => Err(UnknownKind(number)),
+            1 => Family::DoubleRow,
+            _ => Family::SingleRow,
         }
     }
 }
 
-impl TryFrom<u32> for Tube {
-    type Error = UnknownKind;
+impl From<u32> for Tube {
+    ghost from_gives = { λ number kind. kind ≡ tube_of number };
 
-    ghost try_from_gives = { KindOf tube_number 2 };
-
-    fn try_from(number: u32) -> Result<Self, UnknownKind> {
+    fn from(number: u32) -> Tube {
         match number {
-            1 => Ok(Tube::Tube48),
-            2 => Ok(Tube::Tube51),
-            _ => Err(UnknownKind(number)),
+            1 => Tube::Tube48,
+            _ => Tube::Tube51,
         }
     }
 }
 
-impl TryFrom<u32> for Boards {
-    type Error = UnknownKind;
+impl From<u32> for Boards {
+    ghost from_gives = { λ number kind. kind ≡ boards_of number };
 
-    ghost try_from_gives = { KindOf boards_number 3 };
-
-    fn try_from(number: u32) -> Result<Self, UnknownKind> {
+    fn from(number: u32) -> Boards {
         match number {
-            1 => Ok(Boards::Steel),
-            2 => Ok(Boards::Bamboo),
-            3 => Ok(Boards::Timber),
-            _ => Err(UnknownKind(number)),
+            1 => Boards::Steel,
+            2 => Boards::Bamboo,
+            _ => Boards::Timber,
         }
     }
 }
 
-impl TryFrom<u32> for Enclosure {
-    type Error = UnknownKind;
+impl From<u32> for Enclosure {
+    ghost from_gives = { λ number kind. kind ≡ enclosure_of number };
 
-    ghost try_from_gives = { KindOf enclosure_number 3 };
-
-    fn try_from(number: u32) -> Result<Self, UnknownKind> {
+    fn from(number: u32) -> Enclosure {
         match number {
-            1 => Ok(Enclosure::Open),
-            2 => Ok(Enclosure::HalfClosed),
-            3 => Ok(Enclosure::FullyClosed),
-            _ => Err(UnknownKind(number)),
+            1 => Enclosure::Open,
+            2 => Enclosure::HalfClosed,
+            _ => Enclosure::FullyClosed,
         }
     }
 }
 
-impl TryFrom<u32> for Wall {
-    type Error = UnknownKind;
+impl From<u32> for Wall {
+    ghost from_gives = { λ number kind. kind ≡ wall_of number };
 
-    ghost try_from_gives = { KindOf wall_number 2 };
-
-    fn try_from(number: u32) -> Result<Self, UnknownKind> {
+    fn from(number: u32) -> Wall {
         match number {
-            1 => Ok(Wall::Closed),
-            2 => Ok(Wall::Open),
-            _ => Err(UnknownKind(number)),
+            1 => Wall::Closed,
+            _ => Wall::Open,
         }
     }
 }
 
-impl TryFrom<u32> for Soil {
-    type Error = UnknownKind;
+impl From<u32> for Soil {
+    ghost from_gives = { λ number kind. kind ≡ soil_of number };
 
-    ghost try_from_gives = { KindOf soil_number 5 };
-
-    fn try_from(number: u32) -> Result<Self, UnknownKind> {
+    fn from(number: u32) -> Soil {
         match number {
-            1 => Ok(Soil::Gravel),
-            2 => Ok(Soil::Sand),
-            3 => Ok(Soil::Fill),
-            4 => Ok(Soil::Clay),
-            5 => Ok(Soil::Rock),
-            _ => Err(UnknownKind(number)),
+            0 | 1 => Soil::Gravel,
+            2 => Soil::Sand,
+            3 => Soil::Fill,
+            4 => Soil::Clay,
+            _ => Soil::Rock,
         }
     }
 }

@@ -8,10 +8,10 @@ use crate::examine;
 use basis::Refusal;
 use std::marker::Model;
 
-// The entries as they were lent. A contract sees the entries themselves.
+// The entries as they were lent, for whoever shows that they stand; try_from examines them. A contract sees the entries themselves.
 #[derive(Drop)]
 pub struct StandingSheet<'a> {
-    entries: &'a [u16],
+    pub entries: &'a [u16],
 }
 
 impl<'a> Model for StandingSheet<'a> {

@@ -3,12 +3,11 @@
 use native.Mathlib.Nat.{le_antisymm}
 use Rattle.basis.proofs.Tests.{within_le}
 use Rattle.support.specs.declared.Support.{Support}
-use Rattle.support.specs.Examine.{ranges}
 use Rattle.support.specs.Rows.{Inside, Stands}
 use Rattle.support.specs.Bounds.{Bounds}
 
 pub bounds : (s : Support) → Stands s → Bounds s
-unfolding Inside ranges
+unfolding Inside
 bounds s h =
     let i = h.inside in
     let k = within_le 3 3 s.kind (i 1) in

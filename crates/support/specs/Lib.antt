@@ -3,4 +3,4 @@ pub mod Examine
 pub mod Rows
 pub mod Bounds
 pub mod SupportS
-pub mod Standing
+pub mod Read

@@ -1,7 +1,7 @@
 // A formwork support: its 13 numbers by name, and what about them is refused (refusal 3).
 #![tactic(auto)]
 
-pub mod standing;
+pub mod bounded;
 
 ghost use Rattle.std.specs.Prelude.{◌≡◌};
 ghost use Rattle.support.specs.Support.{support_of, numbers};

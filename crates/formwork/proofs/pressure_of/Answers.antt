@@ -5,4 +5,4 @@ use Rattle.formwork.proofs.Most.{wk_most}
 use Rattle.formwork.proofs.pressure_of.Goals as goal
 
 pub returns : goal.returns
-returns c = rw (← c.s.view_is) (is_most _ tt (wk_most c.s.invariant.bounds) (unfold wk in cc))
+returns c = rw (← c.s.view_is) (is_most _ tt (wk_most c.s.invariant) (unfold wk in cc))

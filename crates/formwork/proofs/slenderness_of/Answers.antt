@@ -7,4 +7,4 @@ use Rattle.formwork.proofs.Most.{column_slenderness_most}
 use Rattle.formwork.proofs.slenderness_of.Goals as goal
 
 pub returns : goal.returns
-returns c = rw (← c.s.view_is) (is_most _ tt (column_slenderness_most c.s.invariant.bounds) (unfold column_slenderness column_tenths in cc (up _ _ (omega arith) c.div_ceil.ensures)))
+returns c = rw (← c.s.view_is) (is_most _ tt (column_slenderness_most c.s.invariant) (unfold column_slenderness column_tenths in cc (up _ _ (omega arith) c.div_ceil.ensures)))

@@ -7,4 +7,4 @@ use Rattle.calculation.proofs.Most.{column_slenderness_most}
 use Rattle.calculation.proofs.figures.column_slenderness.Goals as goal
 
 pub returns : goal.returns
-returns c = rw (← c.j.view_is) (is_most _ tt (column_slenderness_most c.j.invariant.bounds) (unfold column_slenderness column_tenths in cc (up _ _ (omega arith) c.div_ceil-tenths.ensures)))
+returns c = rw (← c.j.view_is) (is_most _ tt (column_slenderness_most c.j.invariant) (unfold column_slenderness column_tenths in cc (up _ _ (omega arith) c.div_ceil-tenths.ensures)))

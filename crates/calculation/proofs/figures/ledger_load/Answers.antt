@@ -7,7 +7,7 @@ use Rattle.calculation.proofs.Most.{ledger_load_most}
 use Rattle.calculation.proofs.figures.ledger_load.Goals as goal
 
 pub overflow_mul-result-6 : goal.overflow_mul-result-6
-overflow_mul-result-6 c = let b = c.j.invariant.bounds in fits_below ((1146 * 350 + 1615 * 10000) * (200 * 200 * 200) * 155) tt (simp (c.from-la.ensures, c.from-q.ensures, c.from-lb.ensures) (search mono depth 12))
+overflow_mul-result-6 c = let b = c.j.invariant in fits_below ((1146 * 350 + 1615 * 10000) * (200 * 200 * 200) * 155) tt (simp (c.from-la.ensures, c.from-q.ensures, c.from-lb.ensures) (search mono depth 12))
 
 pub returns : goal.returns
-returns c = rw (← c.j.view_is) (is_most _ tt (ledger_load_most c.j.invariant.bounds) (unfold ledger_load in cc))
+returns c = rw (← c.j.view_is) (is_most _ tt (ledger_load_most c.j.invariant) (unfold ledger_load in cc))

@@ -7,4 +7,4 @@ use Rattle.calculation.proofs.Most.{slip_most}
 use Rattle.calculation.proofs.figures.slip_of.Goals as goal
 
 pub returns : goal.returns
-returns c = rw (← c.j.view_is) (is_most _ tt (slip_most c.j.invariant.bounds) (unfold slip in cc (up _ _ (lit< tt) c.div_ceil.ensures)))
+returns c = rw (← c.j.view_is) (is_most _ tt (slip_most c.j.invariant) (unfold slip in cc (up _ _ (lit< tt) c.div_ceil.ensures)))

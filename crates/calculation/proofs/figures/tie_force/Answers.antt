@@ -7,4 +7,4 @@ use Rattle.calculation.proofs.Most.{tie_force_most}
 use Rattle.calculation.proofs.figures.tie_force.Goals as goal
 
 pub returns : goal.returns
-returns c = rw (← c.j.view_is, ← c.e.view_is) (is_most _ tt (tie_force_most c.j.invariant.bounds c.e.invariant.wk) (unfold tie_force in cc (up _ _ (lit< tt) c.div_ceil.ensures)))
+returns c = rw (← c.j.view_is, ← c.e.view_is) (is_most _ tt (tie_force_most c.j.invariant c.e.invariant) (unfold tie_force in cc (up _ _ (lit< tt) c.div_ceil.ensures)))

@@ -9,7 +9,7 @@ use Rattle.calculation.proofs.Most.{transom_moment_most}
 use Rattle.calculation.proofs.figures.transom_moment.Goals as goal
 
 pub overflow_mul-board_of-3 : goal.overflow_mul-board_of-3
-overflow_mul-board_of-3 c = let b = c.j.invariant.bounds in fits_below ((12 * 350 + 14 * 10000) * 200 * (155 * 155)) tt (simp (c.from-la.ensures, c.from-q.ensures, c.from-lb.ensures) (search mono depth 12))
+overflow_mul-board_of-3 c = let b = c.j.invariant in fits_below ((12 * 350 + 14 * 10000) * 200 * (155 * 155)) tt (simp (c.from-la.ensures, c.from-q.ensures, c.from-lb.ensures) (search mono depth 12))
 
 pub returns : goal.returns
-returns c = rw (← c.j.view_is) (is_most _ tt (transom_moment_most c.j.invariant.bounds) (unfold transom_moment in cc (up _ _ (lit< tt) c.div_ceil.ensures)))
+returns c = rw (← c.j.view_is) (is_most _ tt (transom_moment_most c.j.invariant) (unfold transom_moment in cc (up _ _ (lit< tt) c.div_ceil.ensures)))

@@ -1,16 +1,9 @@
--- A job that stands, its kinds read: the job that it is, and what is true of it.
+-- A job with its kinds read, and the job that it is.
 -- Assumes nothing.
 use Rattle.std.specs.Prelude.{◌≡◌, refl}
 use Rattle.kinds.specs.Kinds.{family_number, tube_number, boards_number, enclosure_number, wall_number, soil_number, family_of, tube_of, boards_of, enclosure_of, wall_of, soil_of, family_back, tube_back, boards_back, enclosure_back, wall_back, soil_back}
 use Rattle.job.specs.declared.Job.{Job}
-use Rattle.job.specs.declared.standing.StandingJob.TheInside.{Inside}
-use Rattle.job.specs.Rows.{Stands}
-use Rattle.job.specs.Bounds.{Bounds}
-
--- no row of the table applies, and so the fields are bounded
-pub record Standing (j : Job) : Type 0 where
-  pub stands : Stands j
-  pub bounds : Bounds j
+use Rattle.job.specs.declared.bounded.BoundedJob.TheInside.{Inside}
 
 -- the job of the fields, each kind by its number
 abbrev pub job_in : Inside → Job
@@ -73,6 +66,10 @@ fields_of j =
       strength = j.strength;
       pad = j.pad;
     }
+
+-- the job that a job is read as: itself where each kind's number is some kind's
+abbrev pub as_read : Job → Job
+as_read j = job_in (fields_of j)
 
 -- nothing is lost between the two
 pub fields_back : (s : Inside) → fields_of (job_in s) ≡ s

@@ -1,16 +1,9 @@
--- A support that stands, its kinds read: the support that it is, and what is true of it.
+-- A support with its kinds read, and the support that it is.
 -- Assumes nothing.
 use Rattle.std.specs.Prelude.{◌≡◌, refl}
 use Rattle.kinds.specs.Kinds.{tube_number, soil_number, tube_of, soil_of, tube_back, soil_back}
 use Rattle.support.specs.declared.Support.{Support}
-use Rattle.support.specs.declared.standing.StandingSupport.TheInside.{Inside}
-use Rattle.support.specs.Rows.{Stands}
-use Rattle.support.specs.Bounds.{Bounds}
-
--- no row of the table applies, and so the fields are bounded
-pub record Standing (s : Support) : Type 0 where
-  pub stands : Stands s
-  pub bounds : Bounds s
+use Rattle.support.specs.declared.bounded.BoundedSupport.TheInside.{Inside}
 
 -- the support of the fields, 3 and each kind by its number
 abbrev pub support_in : Inside → Support
@@ -48,6 +41,10 @@ fields_of s =
       strength = s.strength;
       pad = s.pad;
     }
+
+-- the support that a support is read as: itself where its first number is 3 and each kind's number is some kind's
+abbrev pub as_read : Support → Support
+as_read s = support_in (fields_of s)
 
 -- nothing is lost between the two
 pub fields_back : (s : Inside) → fields_of (support_in s) ≡ s
