@@ -1,4 +1,4 @@
--- What the code hands on in parts: a load, a column, and what wind and load do to a pole.
+-- What the code hands on in parts: a load, a column, a pole, and what wind and load do to a pole.
 -- Assumes nothing.
 use Rattle.std.specs.Prelude.{ℕ, Bool}
 
@@ -13,6 +13,12 @@ pub record Column : Type 0 where
   pub under : ℕ
   pub area : ℕ
   pub modulus : ℕ
+
+-- what a pole bears with, what it carries beside the structure, and the structure's weight, N/m
+pub record Pole : Type 0 where
+  pub column : Column
+  pub load : Load
+  pub weight : ℕ
 
 -- wk, Mw, N, Nw, and whether check 8 is not due
 pub record Effects : Type 0 where

@@ -8,6 +8,7 @@ ghost use Rattle.calculation.specs.Bounded.{Proper};
 
 use crate::constants::{area_of, modulus_of};
 use kinds::Tube;
+use sheet::slenderness::Slenderness;
 use sheet::standing::StandingSheet;
 use std::marker::Model;
 
@@ -33,10 +34,8 @@ impl Model for Column {
     ghost inverse = { λ c. record { over = c.over; under = c.under; area = c.area; modulus = c.modulus } };
 }
 
-// The column of a tube under a sheet, at a slenderness of z tenths.
-// requires: judge and formwork show that no accepted job is more slender.
-pub fn column_of(sheet: &StandingSheet<'_>, tube: Tube, z: u64) -> Column
-    requires { z ≤ 2930 }
+// The column of a tube under a sheet, at a slenderness.
+pub fn column_of(sheet: &StandingSheet<'_>, tube: Tube, z: Slenderness) -> Column
     ensures { result ≡ column_at sheet.now (tube_number tube) z }
 {
     let phi = sheet.stability_factor(z);

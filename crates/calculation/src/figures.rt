@@ -9,6 +9,7 @@ use crate::effects::Effects;
 use job::bounded::BoundedJob;
 use kinds::{Enclosure, Wall};
 use section5::CHECKS;
+use sheet::slenderness::Slenderness;
 
 // The shape factor, 1/100,000.
 // requires: judge shows the bound by examining the job.
@@ -43,16 +44,21 @@ pub fn wind_moment(w: u64, la: u32, step: u32) -> u64
 
 // A slenderness in tenths, above 250.0 up to a whole number.
 // requires: column_slenderness shows it of an accepted job, formwork of an accepted support.
-pub fn rounded_tenths(t: u64) -> u64
+pub fn rounded_tenths(t: u64) -> Slenderness
     requires { t ≤ 2930 }
-    ensures { Is result (rounded_tenths t) 2930 }
+    ensures { result ≡ rounded_tenths t }
 {
-    if t <= 2500 { t } else { 10 * t.div_ceil(10) }
+    if t <= 2500 {
+        return Slenderness { tenths: t };
+    }
+    Slenderness {
+        tenths: 10 * t.div_ceil(10),
+    }
 }
 
 // Z, in tenths.
-pub fn column_slenderness(j: &BoundedJob) -> u64
-    ensures { Is result (column_slenderness j.now) 2930 }
+pub fn column_slenderness(j: &BoundedJob) -> Slenderness
+    ensures { result ≡ column_slenderness j.now }
 {
     let step = u64::from(j.step);
     let tenths = (1155 * factor_of(j.family, j.lb, j.ties) * step).div_ceil(

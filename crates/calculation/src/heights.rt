@@ -3,14 +3,15 @@ ghost use Rattle.std.specs.Prelude.{◌≡◌, ◌≤◌, ◌<◌};
 ghost use Rattle.basis.specs.Figure.{Is};
 ghost use Rattle.kinds.specs.Kinds.{family_number};
 ghost use Rattle.calculation.specs.Whole.{height_count, permitted, heights};
-ghost use Rattle.calculation.specs.Division.{count_up_to, count7, count8};
 ghost use Rattle.calculation.specs.Bounded.{Proper};
+ghost use Rattle.calculation.specs.Division.{count_up_to, count7, count8};
 
 use crate::columns::{Column, limit7_of, limit8_of};
 use crate::constants::height_limit;
 use crate::loads::Load;
 use kinds::Family;
 use section5::Heights;
+use std::marker::Model;
 
 // How many of the heights from 0 to 6,000 cm have c + k H at most b.
 fn count_up_to(c: u64, k: u64, b: u64) -> u64
@@ -24,45 +25,65 @@ fn count_up_to(c: u64, k: u64, b: u64) -> u64
     }
 }
 
-fn count7_of(c: Column, l: Load, weight: u64) -> u64
-    requires { (0 < weight) × (weight ≤ 500) }
-    ensures count { result ≡ count7 c l weight }
-    ensures proper { Proper c }
-{
-    count_up_to(
-        12 * l.dead + 14 * l.live,
-        2400 * weight,
-        200000 * limit7_of(c),
-    )
+// A pole: what it bears with, what it carries beside the structure, and the structure's weight, N/m.
+#[derive(Clone, Copy)]
+pub struct Pole {
+    pub column: Column,
+    pub load: Load,
+    pub weight: u32,
 }
 
-fn count8_of(c: Column, l: Load, weight: u64, m: u64) -> u64
-    requires { (0 < weight) × (weight ≤ 500) }
-    ensures { result ≡ count8 c l weight m }
-{
-    if m <= 205 * c.modulus {
+impl Model for Pole {
+    ghost use Rattle.std.specs.Prelude.{◌≤◌, ◌<◌};
+    ghost use Rattle.calculation.specs.Parts.{Pole};
+
+    ghost Value = { Pole };
+
+    ghost view = { λ p. record { column = p.column; load = p.load; weight = p.weight } };
+
+    ghost invariant = { λ p. (0 < p.weight) × (p.weight ≤ 500) };
+
+    ghost inverse = { λ p. record { column = p.column; load = p.load; weight = p.weight } };
+}
+
+impl Pole {
+    // At how many of the heights from 0 to 6,000 cm check 7 passes.
+    fn count7(self) -> u64
+        ensures count { result ≡ count7 self.column self.load self.weight }
+
+        // to callers that read no part of it
+        ensures sound { (0 < self.weight) × Proper self.column }
+    {
         count_up_to(
-            120 * l.dead + 119 * l.live,
-            24000 * weight,
-            2000000 * limit8_of(c, m),
+            12 * self.load.dead + 14 * self.load.live,
+            2400 * u64::from(self.weight),
+            200000 * limit7_of(self.column),
         )
-    } else {
-        0
     }
-}
 
-// At how many of the heights from 0 to 6,000 cm the pole checks pass, the load raised by a structure of that weight.
-// requires: judge shows it of an accepted job; nothing else asks for a weight above 0.
-pub fn height_count(c: Column, l: Load, weight: u32, m: u64, exempt: bool) -> u64
-    requires { (0 < weight) × (weight ≤ 500) }
-    ensures { Is result (height_count c l weight m exempt) 6001 }
-{
-    let weight = u64::from(weight);
-    let calm = count7_of(c, l, weight);
-    if exempt {
-        calm
-    } else {
-        calm.min(count8_of(c, l, weight, m))
+    // The same of check 8, beside a moment.
+    fn count8(self, m: u64) -> u64
+        ensures { result ≡ count8 self.column self.load self.weight m }
+    {
+        if 205 * self.column.modulus < m {
+            return 0;
+        }
+        count_up_to(
+            120 * self.load.dead + 119 * self.load.live,
+            24000 * u64::from(self.weight),
+            2000000 * limit8_of(self.column, m),
+        )
+    }
+
+    // At how many of them check 7 passes, and check 8 where it is due.
+    pub fn height_count(self, m: u64, exempt: bool) -> u64
+        ensures { Is result (height_count self.column self.load self.weight m exempt) 6001 }
+    {
+        let calm = self.count7();
+        if exempt {
+            return calm;
+        }
+        calm.min(self.count8(m))
     }
 }
 

@@ -32,13 +32,13 @@ module _ (sheet : List ℕ) (s : Support) where
   pub accepted_answer : Accepted sheet s → answer sheet s ≡ Ok (judgement s sheet)
   accepted_answer a = ap (λ e. first e (Ok (judgement s sheet))) a
 
-  -- the parts of a judgement, as the code works them out from the support t, which is s
-  pub assembled : {t : Support} {w m z n nw : ℕ} {c : Column} {load : Load} {v : List ℕ}
-      → t ≡ s → w ≡ W.wk s → m ≡ C.wind_moment w t.bay t.step → z ≡ W.column_slenderness s → c ≡ C.column_at sheet t.tube z → load ≡ W.load s
+  -- the parts of a judgement, as the code works them out from the support t, which is s, and the slenderness y, which is z
+  pub assembled : {t : Support} {w m z y n nw : ℕ} {c : Column} {load : Load} {v : List ℕ}
+      → t ≡ s → w ≡ W.wk s → m ≡ C.wind_moment w t.bay t.step → y ≡ z → z ≡ W.column_slenderness s → c ≡ C.column_at sheet t.tube z → load ≡ W.load s
       → n ≡ C.force load → nw ≡ C.force_wind load → v ≡ W.verdicts c s m n nw
-      → record { verdicts = v; figures = 0 ∷ 0 ∷ 0 ∷ 0 ∷ 0 ∷ 0 ∷ n ∷ nw ∷ 0 ∷ n ∷ n ∷ []; heights = NoLine; wk = w; mw = m; z = z } ≡ judgement s sheet
+      → record { verdicts = v; figures = 0 ∷ 0 ∷ 0 ∷ 0 ∷ 0 ∷ 0 ∷ n ∷ nw ∷ 0 ∷ n ∷ n ∷ []; heights = NoLine; wk = w; mw = m; z = y } ≡ judgement s sheet
   unfolding W.judgement W.mw W.column_of W.figures
-  assembled et ew em ez ec el en enw ev = rw (ev, en, enw, el, ec, ez, em, ew, et) (sym (judgement_same s sheet))
+  assembled et ew em ey ez ec el en enw ev = rw (ev, en, enw, el, ec, ey, ez, em, ew, et) (sym (judgement_same s sheet))
 
 module _ (c : Column) (m n nw : ℕ) where
   -- the row, each place by its check, of the support t, which is s

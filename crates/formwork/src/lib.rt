@@ -15,6 +15,7 @@ use calculation::constants::radius_of;
 use calculation::figures::{rounded_tenths, wind_moment, wind_pressure};
 use calculation::loads::{Load, force_of, force_wind_of};
 use section5::{CHECKS, Heights, Judgement};
+use sheet::slenderness::Slenderness;
 use sheet::standing::StandingSheet;
 use support::Support;
 use support::bounded::BoundedSupport;
@@ -37,8 +38,8 @@ fn pressure_of(s: &BoundedSupport) -> u64
 }
 
 // Z, in tenths.
-fn slenderness_of(s: &BoundedSupport) -> u64
-    ensures { Is result (column_slenderness s.now) 2930 }
+fn slenderness_of(s: &BoundedSupport) -> Slenderness
+    ensures { result ≡ column_slenderness s.now }
 {
     let length = u64::from(s.step) + 2 * u64::from(s.overhang);
     rounded_tenths((1000 * length).div_ceil(radius_of(s.tube)))
@@ -72,7 +73,7 @@ pub fn judge_accepted_support(sheet: &StandingSheet<'_>, s: &BoundedSupport) -> 
         heights: Heights::NoLine,
         wk: w,
         mw: m,
-        z,
+        z: z.tenths,
     }
 }
 

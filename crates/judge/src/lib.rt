@@ -10,7 +10,7 @@ use calculation::checks::verdicts_of;
 use calculation::columns::column_of;
 use calculation::effects::effects_of;
 use calculation::figures::{column_slenderness, figures_of};
-use calculation::heights::{height_count, heights_of};
+use calculation::heights::{Pole, heights_of};
 use calculation::loads::deck_load;
 use job::Job;
 use job::bounded::BoundedJob;
@@ -24,14 +24,19 @@ pub fn judge_accepted(sheet: &StandingSheet<'_>, j: &BoundedJob) -> Judgement
     let e = effects_of(j);
     let z = column_slenderness(j);
     let c = column_of(sheet, j.tube, z);
-    let count = height_count(c, deck_load(j), j.weight, e.mw, e.not_due);
+    let pole = Pole {
+        column: c,
+        load: deck_load(j),
+        weight: j.weight,
+    };
+    let count = pole.height_count(e.mw, e.not_due);
     Judgement {
         verdicts: verdicts_of(c, j, e),
         figures: figures_of(j, e),
         heights: heights_of(j.family, count),
         wk: e.wk,
         mw: e.mw,
-        z,
+        z: z.tenths,
     }
 }
 

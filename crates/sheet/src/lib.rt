@@ -1,6 +1,7 @@
 // The column sheet: its entries from bytes, what about it is refused (refusals 1 and 2), and the stability factor read from it.
 #![tactic(auto)]
 
+pub mod slenderness;
 pub mod standing;
 
 ghost use Rattle.std.specs.Prelude.{◌≡◌};

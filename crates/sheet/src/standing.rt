@@ -5,6 +5,7 @@ ghost use Rattle.sheet.specs.Sheet.{examination};
 ghost use Rattle.sheet.specs.StabilityFactor.{between, Reading};
 
 use crate::examine;
+use crate::slenderness::Slenderness;
 use basis::Refusal;
 use std::marker::Model;
 
@@ -46,12 +47,11 @@ impl<'a> TryFrom<&'a [u16]> for StandingSheet<'a> {
 }
 
 impl StandingSheet<'_> {
-    // The stability factor at a slenderness of z tenths.
-    // requires: calculation and formwork show that no accepted job is more slender.
-    pub fn stability_factor(&self, z: u64) -> StabilityFactor
-        requires { z ≤ 2930 }
+    // The stability factor at a slenderness.
+    pub fn stability_factor(&self, z: Slenderness) -> StabilityFactor
         ensures { Reading result self.now z }
     {
+        let z = z.tenths;
         let above = z.div_ceil(10);
         if z <= 2500 {
             let from = u64::from(self.entries[(z / 10) as usize]);

@@ -40,10 +40,10 @@ pub returns-then-z-le2500 : goal.returns-then-z-le2500
 returns-then-z-le2500 c =
     let t = c.if-z-le2500.true in
     let o = over_line _ _ t (omega arith) c.from-from.ensures c.from-to.ensures c.between_of.ensures in
-    rw (← c.self.view_is) (reading _ _ c.self.invariant c.requires o (unfold under in simp (le-leb _ _ t)))
+    rw (← c.self.view_is, ← c.z.view_is) (reading _ _ c.self.invariant c.z.invariant o (unfold under in simp (le-leb _ _ t)))
 
 pub returns : goal.returns
 returns c =
     let t = c.if-z-le2500.false in
-    let u : c.div_ceil-above.result ≡ above c.args.z = omega arith in
-    rw (← c.self.view_is) (reading _ _ c.self.invariant c.requires (over_beyond _ _ t) (under_beyond _ t u))
+    let u : c.div_ceil-above.result ≡ above c.z.inside.tenths = omega arith in
+    rw (← c.self.view_is, ← c.z.view_is) (reading _ _ c.self.invariant c.z.invariant (over_beyond _ _ t) (under_beyond _ t u))
