@@ -6,8 +6,6 @@ ghost use Rattle.basis.specs.Range.{within};
 ghost use Rattle.basis.specs.Refusal.{number as number_of, place as place_of, unless, nothing};
 ghost use Rattle.basis.specs.declared.Refusal.TheVariants.{FieldRange};
 
-use std::error::Error;
-use std::fmt;
 
 // Why nothing is answered, with its place: those of document 01, then those of document 02; specs/Refusal.antt says what the place of each is.
 #[derive(Clone, Copy, Debug, PartialEq, Eq)]
@@ -90,15 +88,6 @@ impl Refusal {
         }
     }
 }
-
-// The paper's line of a refusal, without its end.
-impl fmt::Display for Refusal {
-    fn fmt<W: fmt::Write>(&self, f: &mut fmt::Formatter<W>) -> fmt::Result {
-        write!(f, "refused {} {}", self.number(), self.place())
-    }
-}
-
-impl Error for Refusal {}
 
 // Refuses unless the test passes.
 pub fn ensure(stands: bool, refusal: Refusal) -> Result<(), Refusal>

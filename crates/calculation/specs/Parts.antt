@@ -1,4 +1,4 @@
--- What the code hands on in parts: a load, a column, a pole, and what wind and load do to a pole.
+-- What the code hands on in parts: a load, a column, a pole, its ground, and what wind and load do to a pole.
 -- Assumes nothing.
 use Rattle.std.specs.Prelude.{ℕ, Bool}
 
@@ -19,6 +19,12 @@ pub record Pole : Type 0 where
   pub column : Column
   pub load : Load
   pub weight : ℕ
+
+-- what a pole stands on: soil, strength in kPa, and the pad's area in cm²
+pub record Ground : Type 0 where
+  pub soil : ℕ
+  pub strength : ℕ
+  pub pad : ℕ
 
 -- wk, Mw, N, Nw, and whether check 8 is not due
 pub record Effects : Type 0 where

@@ -15,6 +15,7 @@ use crate::figures::{
 use job::bounded::BoundedJob;
 use kinds::{Enclosure, Soil};
 use section5::CHECKS;
+use std::marker::Model;
 
 // A verdict: 1 passes, 2 fails.
 pub fn verdict_of(pass: bool) -> u8
@@ -101,19 +102,48 @@ pub fn base_bears(n: u64) -> bool
     n <= 40000
 }
 
-// Check 11 of a force.
-// requires: judge and formwork show the bounds by examining the job.
-pub fn ground_bears(soil: Soil, strength: u32, pad: u32, n: u64) -> bool
-    requires { (strength ≤ 2000) × (pad ≤ 10000) }
-    ensures { result ≡ ground_bears (soil_number soil) strength pad n }
-{
-    n <= soil_factor(soil) * u64::from(strength) * u64::from(pad) / 100
+// What a pole stands on: soil, its strength in kPa, and the pad's area in cm².
+#[derive(Clone, Copy)]
+pub struct Ground {
+    pub soil: Soil,
+    pub strength: u32,
+    pub pad: u32,
+}
+
+impl Model for Ground {
+    ghost use Rattle.std.specs.Prelude.{◌≤◌, refl};
+    ghost use Rattle.calculation.specs.Parts.{Ground};
+    ghost use Rattle.kinds.specs.Kinds.{soil_number, soil_of, soil_back};
+
+    ghost Value = { Ground };
+
+    ghost view = { λ g. record { soil = soil_number g.soil; strength = g.strength; pad = g.pad } };
+
+    ghost invariant = { λ g. (g.strength ≤ 2000) × (g.pad ≤ 10000) };
+
+    ghost inverse = { λ g. record { soil = soil_of g.soil; strength = g.strength; pad = g.pad } };
+
+    ghost inverse_ok = { λ g h. rw (soil_back g.soil) refl };
+}
+
+impl Ground {
+    // Check 11 of a force.
+    pub fn bears(self, n: u64) -> bool
+        ensures { result ≡ ground_bears self.soil self.strength self.pad n }
+    {
+        n <= soil_factor(self.soil) * u64::from(self.strength) * u64::from(self.pad) / 100
+    }
 }
 
 fn check11_of(j: &BoundedJob, e: Effects) -> u8
     ensures { result ≡ verdict (ground_bears j.now.soil j.now.strength j.now.pad e.n) }
 {
-    verdict_of(ground_bears(j.soil, j.strength, j.pad, e.n))
+    let ground = Ground {
+        soil: j.soil,
+        strength: j.strength,
+        pad: j.pad,
+    };
+    verdict_of(ground.bears(e.n))
 }
 
 // The row of eleven numbers, the form that the paper requires.

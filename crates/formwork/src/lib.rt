@@ -9,7 +9,7 @@ ghost use Rattle.formwork.specs.Whole.{load, wk, column_slenderness, verdicts};
 ghost use Rattle.formwork.specs.Answer.{answer};
 
 use basis::Refusal;
-use calculation::checks::{base_bears, ground_bears, verdict_of};
+use calculation::checks::{Ground, base_bears, verdict_of};
 use calculation::columns::{Column, bears_of, bends_of, column_of};
 use calculation::constants::radius_of;
 use calculation::figures::{rounded_tenths, wind_moment, wind_pressure};
@@ -52,7 +52,12 @@ fn verdicts_of(c: Column, s: &BoundedSupport, m: u64, n: u64, nw: u64) -> [u8; C
     let v7 = verdict_of(bears_of(c, n));
     let v8 = verdict_of(bends_of(c, nw, m));
     let v10 = verdict_of(base_bears(n));
-    let v11 = verdict_of(ground_bears(s.soil, s.strength, s.pad, n));
+    let ground = Ground {
+        soil: s.soil,
+        strength: s.strength,
+        pad: s.pad,
+    };
+    let v11 = verdict_of(ground.bears(n));
     [0, 0, 0, 0, 0, 0, v7, v8, 0, v10, v11]
 }
 

@@ -1,30 +1,24 @@
 -- The marked cases of document 01 on what judging refuses: in each row what the definitions compute, and what the paper says.
 -- Assumes nothing.
-use Rattle.std.specs.Prelude.{ℕ, refl, List, [], ◌∷◌, set, Ok, Err}
+use Rattle.std.specs.Prelude.{ℕ, refl, List, [], ◌∷◌, set}
 use Rattle.basis.specs.Search.{first_fail}
-use Rattle.basis.specs.Refusal.{number, place, Examined}
-use Rattle.basis.specs.Marked.{Row, row, Hold}
+use Rattle.basis.specs.Marked.{Row, row, Hold, number_and_place}
 use Rattle.job.specs.declared.Job.{Job}
 use Rattle.job.specs.Job.{job_of}
 use Rattle.job.specs.Ranges.{ranges, outside}
 use Rattle.sheet.specs.Sheet as Sheet
 use Rattle.job.specs.JobJ.{numbers_J, job_J}
 use Rattle.sheet.specs.SheetT.{sheet_T}
-use Rattle.judge.specs.Answer.{refusal}
+use Rattle.judge.specs.Answer.{answer}
 
 -- a single row of 24 m before a wall of this thickness
 unfoldable pub single_with : ℕ → Job
 unfolding job_of numbers_J
 single_with thickness = job_of (set (set (set numbers_J 0 2) 6 2400) 19 thickness)
 
--- what is refused: the number and the place, 0 and 0 where nothing is
-abbrev pub told : Examined → List ℕ
-told (Ok none) = 0 ∷ 0 ∷ []
-told (Err r) = number r ∷ place r ∷ []
-
--- of a sheet and a job
+-- what judging a job under a sheet refuses
 unfoldable pub refused : List ℕ → Job → List ℕ
-refused sheet j = told (refusal sheet j)
+refused sheet j = number_and_place (answer sheet j)
 
 pub rows : List Row
 unfolding sheet_T job_J single_with refused
