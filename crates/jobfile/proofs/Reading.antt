@@ -1,6 +1,6 @@
 -- Laws of reading: the job and the refusal of a file, from its numbers.
 -- Assumes nothing.
-use Rattle.std.specs.Prelude.{Some, None, Ok, Err}
+use Rattle.std.specs.Prelude.{Some, None, Result, Ok, Err, MatchResult, IsOkAnd}
 use Prim.Native.Nat.{ℕ}
 use mathlib.Core.Path.{◌≡◌, ◌∙◌, refl, sym, ap}
 use mathlib.Core.Bool.{true, false}
@@ -24,6 +24,7 @@ use Rattle.groups.specs.Numbers.{damage, values, value_of, numbers_in}
 use Rattle.groups.proofs.Files.{values_long}
 use Rattle.jobfile.specs.Kind.{Kind, scaffold, support, count, examination, Stands, marks_support, kind_of}
 use Rattle.jobfile.specs.Read.{refusal_as, job_as, read_as, job_in, ReadAsMarked}
+use Rattle.jobfile.specs.declared.FileJob.{FileJob}
 use Rattle.jobfile.specs.declared.FileJob.TheVariants.{Scaffold, Support}
 use Rattle.jobfile.proofs.BothKinds.{told, marks_kind}
 
@@ -45,29 +46,28 @@ module _ (file : List ℕ) where
   unfolding job_in kind_of
   read_unmarked e = rw e
 
--- what is read of a file's bytes: what is refused of them, or its numbers, of which the job is then examined
-module _ (k : Kind) (file : List ℕ) where
-  pub read_damaged : {r : Refusal} → Err r ≡ numbers_in (count k) file → Err r ≡ read_as k file
-  unfolding numbers_in
-  read_damaged {r} e = go (damage (count k) 0 file) e
+-- what is read of a file's bytes and examined, and then put into a case of its job
+module _ {A : Type 0} (of : List ℕ → A) (examined : A → Examined) (case : A → FileJob) {answer : Result FileJob Refusal} where
+  cased : (e : Examined) (a : A) → MatchResult (first e (Ok a)) (λ x. IsOkAnd answer (λ y. y ≡ case x)) (λ r. answer ≡ Err r) → answer ≡ first e (Ok (case a))
+  cased (Ok none) a m = is_ok_and answer m
     where
-      go : (d : Examined) → Err r ≡ first d (Ok (values (count k) file)) → Err r ≡ first (first d (examination k (values (count k) file))) (Ok (job_as k (values (count k) file)))
-      go (Ok none) f = absurd (cc)
-      go (Err s) f = let g : r ≡ s = cc in ap (λ (x : Refusal). Err x) g
+      is_ok_and : (r : Result FileJob Refusal) → IsOkAnd r (λ y. y ≡ case a) → r ≡ Ok (case a)
+      is_ok_and (Ok y) e = ap (λ x. Ok x) e
+      is_ok_and (Err r) e = absurd e
+  cased (Err r) a m = m
 
-  module _ {ns : List ℕ} (e : Ok ns ≡ numbers_in (count k) file) where
-    pub read_sound : (damage (count k) 0 file ≡ nothing) × (values (count k) file ≡ ns)
-    unfolding numbers_in
-    read_sound = let f = first_answers (damage (count k) 0 file) (Ok (values (count k) file)) (sym e) in (f.0, cc (f.1))
-
-    read_examined : first (examination k ns) (Ok (job_as k ns)) ≡ read_as k file
-    read_examined = rw (read_sound.0, read_sound.1) refl
-
-    pub read_refused : {r : Refusal} → Err r ≡ examination k ns → Err r ≡ read_as k file
-    read_refused q = ap (λ (e : Examined). first e (Ok (job_as k ns))) q ∙ read_examined
-
-    pub read_done : nothing ≡ examination k ns → Ok (job_as k ns) ≡ read_as k file
-    read_done q = ap (λ (e : Examined). first e (Ok (job_as k ns))) q ∙ read_examined
+  pub read_cased : (n : ℕ) (file : List ℕ) (found : Result A Refusal)
+      → MatchResult (numbers_in n file) (λ ns. (raw : A) × (raw ≡ of ns) × (found ≡ first (examined raw) (Ok raw))) (λ r. found ≡ Err r)
+      → MatchResult found (λ x. IsOkAnd answer (λ y. y ≡ case x)) (λ r. answer ≡ Err r)
+      → answer ≡ first (first (damage n 0 file) (examined (of (values n file)))) (Ok (case (of (values n file))))
+  unfolding numbers_in
+  read_cased n file found f m = go (damage n 0 file) f
+    where
+      go : (d : Examined)
+          → MatchResult (first d (Ok (values n file))) (λ ns. (raw : A) × (raw ≡ of ns) × (found ≡ first (examined raw) (Ok raw))) (λ r. found ≡ Err r)
+          → answer ≡ first (first d (examined (of (values n file)))) (Ok (case (of (values n file))))
+      go (Ok none) (raw, e, f) = cased (examined (of (values n file))) (of (values n file)) (rw (f, e) at m)
+      go (Err r) f = rw f at m
 
 -- a file is read as what its first number marks
 pub read_as_marked : ReadAsMarked

@@ -1,14 +1,15 @@
 // Job files of both kinds: a job's numbers in groups of seven bits, read (refusals 6, 7, 3, 4, 5) and written (3, 4, 5, 8).
 #![tactic(auto)]
 
-ghost use Rattle.std.specs.Prelude.{◌≡◌, ◌≤◌, length};
+ghost use Rattle.std.specs.Prelude.{◌≡◌, ◌≤◌, length, MatchResult, Err};
 ghost use Rattle.basis.specs.Refusal.{first};
 ghost use Rattle.basis.specs.Writing.{room_refusal, written_or, left_or};
 ghost use Rattle.job.specs.Job.{numbers};
 ghost use Rattle.support.specs.Support.{numbers as support_numbers};
 ghost use Rattle.groups.specs.Encode.{encode_all};
+ghost use Rattle.groups.specs.Numbers.{numbers_in};
 ghost use Rattle.jobfile.specs.Kind.{scaffold, support, marks_support};
-ghost use Rattle.jobfile.specs.Read.{read_as, job_in};
+ghost use Rattle.jobfile.specs.Read.{job_in};
 ghost use Rattle.jobfile.specs.Write.{file_written, file_left};
 
 use basis::{Refusal, ensure};
@@ -48,19 +49,16 @@ fn marks_support(file: &[u8]) -> bool
     }
 }
 
-// One function for each kind: a trait of the two would be longer than both.
-fn read_scaffold(file: &[u8]) -> Result<FileJob, Refusal>
-    ensures { result ≡ read_as scaffold file.now }
+// The job of a file of N numbers: R has them by name, and stands as S, or is refused.
+// requires: a scaffold has 25, a support 13.
+fn read_as<R: From<[u32; N]>, S: TryFrom<R, Error = Refusal>, const N: usize>(
+    file: &[u8],
+) -> Result<S, Refusal>
+    requires { N ≤ 25 }
+    ensures { MatchResult (numbers_in N file.now) (λ ns. (raw : R) × R.from_gives ns raw × S.try_from_gives raw result) (λ refusal. result ≡ Err refusal) }
 {
-    let numbers = read_numbers::<JOB_NUMBERS>(file)?;
-    Ok(FileJob::Scaffold(Job::from(numbers).try_into()?))
-}
-
-fn read_support(file: &[u8]) -> Result<FileJob, Refusal>
-    ensures { result ≡ read_as support file.now }
-{
-    let numbers = read_numbers::<SUPPORT_NUMBERS>(file)?;
-    Ok(FileJob::Support(Support::from(numbers).try_into()?))
+    let numbers = read_numbers::<N>(file)?;
+    S::try_from(R::from(numbers))
 }
 
 // The job of a file.
@@ -68,18 +66,23 @@ pub fn read(file: &[u8]) -> Result<FileJob, Refusal>
     ensures { result ≡ job_in file.now }
 {
     if marks_support(file) {
-        read_support(file)
+        read_as::<Support, _, SUPPORT_NUMBERS>(file).map(FileJob::Support)
     } else {
-        read_scaffold(file)
+        read_as::<Job, _, JOB_NUMBERS>(file).map(FileJob::Scaffold)
     }
 }
 
-// Writes numbers at the front of a buffer, which stays as it is where they do not fit.
-fn write_fitting(numbers: &[u32], out: &mut [u8]) -> Result<usize, Refusal>
+// Writes examined numbers at the front of a buffer, which stays as it is where they are refused or do not fit.
+fn write_examined(
+    examined: Result<(), Refusal>,
+    numbers: &[u32],
+    out: &mut [u8],
+) -> Result<usize, Refusal>
     requires { length numbers.now ≤ 25 }
-    ensures returned { result ≡ written_or (room_refusal (encode_all numbers.now) out.old) (length (encode_all numbers.now)) }
-    ensures buffer { out.new ≡ left_or (room_refusal (encode_all numbers.now) out.old) (encode_all numbers.now) out.old }
+    ensures returned { result ≡ written_or (first examined (room_refusal (encode_all numbers.now) out.old)) (length (encode_all numbers.now)) }
+    ensures buffer { out.new ≡ left_or (first examined (room_refusal (encode_all numbers.now) out.old)) (encode_all numbers.now) out.old }
 {
+    examined?;
     let needed = numbers_length(numbers);
     ensure(needed <= out.len(), Refusal::TooShort(needed as u64))?;
     write_numbers(numbers, out);
@@ -87,21 +90,19 @@ fn write_fitting(numbers: &[u32], out: &mut [u8]) -> Result<usize, Refusal>
 }
 
 // Writes the file of a scaffold's job at the front of a buffer, which stays as it is where the job is refused or does not fit.
-#[tactic(auto, using(crate::proofs::Writing::scaffold_written, crate::proofs::Writing::scaffold_left))]
+#[tactic(auto, using(job::proofs::Numbers::job_numbers))]
 pub fn write(j: Job, out: &mut [u8]) -> Result<usize, Refusal>
     ensures returned { result ≡ file_written scaffold (numbers j) out.old }
     ensures buffer { out.new ≡ file_left scaffold (numbers j) out.old }
 {
-    j.examine()?;
-    write_fitting(&<[u32; JOB_NUMBERS]>::from(j), out)
+    write_examined(j.examine(), &<[u32; JOB_NUMBERS]>::from(j), out)
 }
 
 // The same for a support.
-#[tactic(auto, using(crate::proofs::Writing::support_written, crate::proofs::Writing::support_left))]
+#[tactic(auto, using(support::proofs::Numbers::support_numbers))]
 pub fn write_support(s: Support, out: &mut [u8]) -> Result<usize, Refusal>
     ensures returned { result ≡ file_written support (support_numbers s) out.old }
     ensures buffer { out.new ≡ file_left support (support_numbers s) out.old }
 {
-    s.examine()?;
-    write_fitting(&<[u32; SUPPORT_NUMBERS]>::from(s), out)
+    write_examined(s.examine(), &<[u32; SUPPORT_NUMBERS]>::from(s), out)
 }
