@@ -86,7 +86,5 @@ pub fn judge_accepted_support(sheet: &StandingSheet<'_>, s: &BoundedSupport) -> 
 pub fn judge_support(sheet: &[u16], s: Support) -> Result<Judgement, Refusal>
     ensures { result ≡ answer sheet.now s }
 {
-    let sheet = StandingSheet::try_from(sheet)?;
-    let s = BoundedSupport::try_from(s)?;
-    Ok(judge_accepted_support(&sheet, &s))
+    Ok(judge_accepted_support(&sheet.try_into()?, &s.try_into()?))
 }

@@ -98,7 +98,7 @@ pub fn write(j: Job, out: &mut [u8]) -> Result<usize, Refusal>
     write_examined(j.examine(), &<[u32; JOB_NUMBERS]>::from(j), out)
 }
 
-// The same for a support.
+// The same for a support, by a name of its own since a job and a support share no trait and each call is one line.
 #[tactic(auto, using(support::proofs::Numbers::support_numbers))]
 pub fn write_support(s: Support, out: &mut [u8]) -> Result<usize, Refusal>
     ensures returned { result ≡ file_written support (support_numbers s) out.old }
