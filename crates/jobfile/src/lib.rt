@@ -98,7 +98,7 @@ pub fn write(j: Job, out: &mut [u8]) -> Result<usize, Refusal>
     write_examined(j.examine(), &<[u32; JOB_NUMBERS]>::from(j), out)
 }
 
-// The same for a support, by a name of its own since a job and a support share no trait and each call is one line.
+// The same for a support. What the two calls share is `write_examined`, so that each is a line.
 #[tactic(auto, using(support::proofs::Numbers::support_numbers))]
 pub fn write_support(s: Support, out: &mut [u8]) -> Result<usize, Refusal>
     ensures returned { result ≡ file_written support (support_numbers s) out.old }

@@ -81,7 +81,7 @@ pub fn rembilung_write_job(numbers: &[u32; 25], file: &mut [u8]) -> u64
     code_of(jobfile::write(Job::from(*numbers), file))
 }
 
-// The job file of a support's 13 numbers: its length, or a refusal (3, 8). C calls each kind by its name, and of either there is one line.
+// The job file of a support's 13 numbers: its length, or a refusal (3, 8). C calls each kind by its name, and each call is a line.
 #[tactic(auto, unfolding(crate::specs::Call::write_code, crate::specs::Call::write_buffer))]
 pub fn rembilung_write_support(numbers: &[u32; 13], file: &mut [u8]) -> u64
     ensures returned { result ≡ write_code support numbers.now file.old }

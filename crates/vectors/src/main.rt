@@ -1,14 +1,14 @@
 // Judges the packed vectors of data/ and compares each part of every answer with the expected one.
 #![tactic(auto)]
 
-ghost use Rattle.std.specs.Prelude.{◌≡◌, ◌^◌, ◌<◌, ◌≤◌, length};
+ghost use Rattle.std.specs.Prelude.{◌^◌, ◌<◌, ◌≤◌};
 
 use basis::Refusal;
 use job::Job;
 use section5::{Heights, Judgement};
 use std::io::Read;
 use std::rt::Files;
-use std::{array, fs, io};
+use std::{array, fmt, fs, io};
 
 // What a record shows of an answer, or that it cannot be read whole.
 #[derive(Clone, Copy, Debug, PartialEq, Eq)]
@@ -20,10 +20,11 @@ enum Outcome {
 
 // The bytes that begin at a place; 0 where they are not all there.
 fn bytes_at<const N: usize>(bytes: &[u8], at: usize) -> [u8; N] {
-    match bytes.get(at..).and_then(|rest| rest.first_chunk()) {
-        Some(chunk) => *chunk,
-        None => [0; N],
-    }
+    bytes
+        .get(at..)
+        .and_then(|rest| rest.first_chunk())
+        .copied()
+        .unwrap_or([0; N])
 }
 
 // The 32 bits that begin at a place, low byte first.
@@ -31,10 +32,9 @@ fn word_at(bytes: &[u8], at: usize) -> u32 {
     u32::from_le_bytes(bytes_at(bytes, at))
 }
 
-// The 512 entries that begin at a place, low byte first.
-fn entries(bytes: &[u8], from: usize) -> [u16; 512]
-    requires { from ≤ 1024 }
-    ensures { 512 ≡ length result }
+// The entries that begin at a place, low byte first.
+fn entries<const N: usize>(bytes: &[u8], from: usize) -> [u16; N]
+    requires { (N ≤ 512) × (from ≤ 1024) }
 {
     array::from_fn(|k| u16::from_le_bytes(bytes_at(bytes, from + 2 * k)))
 }
@@ -44,21 +44,26 @@ fn numbers(record: &[u8]) -> [u32; 25] {
     array::from_fn(|k| word_at(record, 8 + 4 * k))
 }
 
-// Whether there are heights, 1 or 0 for "none", and the stability height and the permitted height.
-fn heights_of(heights: Heights) -> (u64, u64, u64) {
+// The stability height and the permitted height as a record has them: each as 1 and the height, or 0 and 0 for none.
+fn heights_of(heights: Heights) -> [u64; 4] {
     match heights {
-        Heights::NoLine | Heights::Nowhere => (0, 0, 0),
-        Heights::Both(stability, permitted) => (1, stability, permitted),
+        Heights::NoLine | Heights::Nowhere => [0; 4],
+        Heights::Both(stability, permitted) => [1, stability, 1, permitted],
     }
 }
 
 // The 31 parts of a judgement, in the order of a record's answer.
 fn parts_of(j: Judgement) -> [u64; 31] {
-    let (given, stability, permitted) = heights_of(j.heights);
+    let words = [0; 2]
+        .into_iter()
+        .chain(j.verdicts.map(u64::from))
+        .chain(j.figures)
+        .chain(heights_of(j.heights))
+        .chain([j.wk, j.mw, j.z]);
     let mut parts = [0; 31];
-    parts[2..13].copy_from_slice(&j.verdicts.map(u64::from));
-    parts[13..24].copy_from_slice(&j.figures);
-    parts[24..31].copy_from_slice(&[given, stability, given, permitted, j.wk, j.mw, j.z]);
+    for (part, word) in parts.iter_mut().zip(words) {
+        *part = word;
+    }
     parts
 }
 
@@ -75,20 +80,25 @@ fn answer_of(judged: Result<Judgement, Refusal>) -> [u64; 31] {
     }
 }
 
-// The name of a part of an answer.
-fn print_name<R: Print>(rt: &R, k: usize) -> io::Result<()> {
-    match k {
-        0 => print!(rt; " refusal"),
-        1 => print!(rt; " place"),
-        2..=12 => print!(rt; " verdict {}", k - 1),
-        13..=23 => print!(rt; " figure {}", k - 12),
-        24 => print!(rt; " stability given"),
-        25 => print!(rt; " stability"),
-        26 => print!(rt; " permitted given"),
-        27 => print!(rt; " permitted"),
-        28 => print!(rt; " wk"),
-        29 => print!(rt; " Mw"),
-        _ => print!(rt; " Z"),
+// A part of an answer by its place there, printed as its name.
+#[derive(Clone, Copy)]
+struct Part(usize);
+
+impl fmt::Display for Part {
+    fn fmt<W: fmt::Write>(&self, f: &mut fmt::Formatter<W>) -> fmt::Result {
+        match self.0 {
+            0 => write!(f, "refusal"),
+            1 => write!(f, "place"),
+            k @ 2..=12 => write!(f, "verdict {}", k - 1),
+            k @ 13..=23 => write!(f, "figure {}", k - 12),
+            24 => write!(f, "stability given"),
+            25 => write!(f, "stability"),
+            26 => write!(f, "permitted given"),
+            27 => write!(f, "permitted"),
+            28 => write!(f, "wk"),
+            29 => write!(f, "Mw"),
+            _ => write!(f, "Z"),
+        }
     }
 }
 
@@ -109,8 +119,7 @@ fn compare<R: Print>(
                 let line = word_at(record, 0);
                 print!(rt; "{name}.txt line {line}:")?;
             }
-            print_name(rt, k)?;
-            print!(rt; " is {found}, expected {expected};")?;
+            print!(rt; " {} is {found}, expected {expected};", Part(k))?;
             outcome = Outcome::Differs;
         }
     }
@@ -120,21 +129,13 @@ fn compare<R: Print>(
     Ok(outcome)
 }
 
-// The sheet that a record names stands at the front of jobs.bin: T, then C.
-fn front_sheet(front: &[u8], which: u32) -> [u16; 512]
-    ensures { 512 ≡ length result }
-{
-    if which == 0 {
-        entries(front, 4)
-    } else {
-        entries(front, 506)
-    }
-}
-
-// Judges a record of jobs.bin.
+// Judges a record of jobs.bin, under the one of the sheets at its front that the record names: T, or C after it.
 fn judge_job<R: Print>(rt: &R, front: &[u8], record: &[u8]) -> io::Result<Outcome> {
-    let sheet = front_sheet(front, word_at(record, 4));
-    let judged = judge::judge(&sheet[0..251], Job::from(numbers(record)));
+    let sheet: [u16; 251] = match word_at(record, 4) {
+        0 => entries(front, 4),
+        _ => entries(front, 506),
+    };
+    let judged = judge::judge(&sheet, Job::from(numbers(record)));
     compare(rt, "jobs", &answer_of(judged), record, 108)
 }
 
@@ -148,7 +149,7 @@ fn job_j() -> Job {
 
 // Judges a record of sheets.bin, of whose answer only the refusal is expected.
 fn judge_sheet<R: Print>(rt: &R, record: &[u8]) -> io::Result<Outcome> {
-    let sheet = entries(record, 16);
+    let sheet: [u16; 512] = entries(record, 16);
     let Some(sheet) = sheet.get(..word_at(record, 4) as usize) else {
         return Ok(Outcome::Cut);
     };
