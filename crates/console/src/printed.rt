@@ -20,6 +20,7 @@ fn write_line(refusal: Refusal, out: &mut [u8; ROOM]) -> usize
 }
 
 // The report, or the line of the refusal, at the front of a buffer, from a sheet's size and first bytes and a file; gives its length.
+#[tactic(auto, using(crate::proofs::Returned::other_length, crate::proofs::Returned::report_printed, crate::proofs::Returned::refusal_printed))]
 pub fn write_printed(size: u64, sheet: &[u8], file: &[u8], out: &mut [u8; ROOM]) -> usize
     ensures within { IsPrefixLen result out.new }
     ensures returned { result ≡ length (printed_from size sheet.now file.now) }

@@ -1,11 +1,12 @@
 -- Of a sheet that falls from at most 1,000 to at least 117 nothing is refused.
 -- Assumes nothing.
 use mathlib.Core.Bool.{true, ◌&&◌}
-use mathlib.Core.Path.{◌≡◌, sym}
+use mathlib.Core.Path.{◌≡◌, refl, sym}
 use mathlib.Core.Logic.{◌⊎◌, inl, inr}
 use mathlib.Core.List.{List}
-use Prim.Native.Nat.{ℕ, zero, suc, ◌-◌, ◌≤◌, ◌<◌}
+use Prim.Native.Nat.{ℕ, zero, suc, ◌+◌, ◌-◌, ◌≤◌, ◌<◌}
 use native.Mathlib.Nat.{le_trans, eq-or-lt_of_le}
+use native.Mathlib.Numerals.{add-one}
 use native.Mathlib.Omega.{arith}
 use lib.Dec.{T, leb, leb→le, lit≤}
 use lib.ListN.{length, get_or}
@@ -16,6 +17,15 @@ use Rattle.sheet.specs.Rows.{Faulty}
 use Rattle.sheet.specs.Pass.{falling, sound}
 use Rattle.sheet.proofs.Rows.{told}
 use Rattle.sheet.proofs.Falls.{falls_from}
+
+-- of no entries, and of one more
+pub falling_none : (s : List ℕ) → falling s 0 ≡ true
+unfolding falling
+falling_none s = refl
+
+pub falling_next : (s : List ℕ) (n : ℕ) → falling s (n + 1) ≡ (falling s n && leb (get_or s (n + 1) 0) (get_or s n 0))
+unfolding falling
+falling_next s n = rw add-one refl
 
 falling_at : (s : List ℕ) (n : ℕ) → T (falling s n) → (k : ℕ) → suc k ≤ n → get_or s (suc k) 0 ≤ get_or s k 0
 unfolding falling
@@ -28,11 +38,9 @@ falling_at s (suc n) t k l = go (falling_at s n (both_left (falling s n) _ t) k)
 
 module _ (s : List ℕ) (h : T (sound s)) where
   starts : get_or s 0 0 ≤ 1000
-  unfolding sound
   starts = leb→le (get_or s 0 0) 1000 (both_left (leb (get_or s 0 0) 1000) _ h)
 
   rest : T (leb 117 (get_or s 250 0) && falling s 250)
-  unfolding sound
   rest = both_right (leb (get_or s 0 0) 1000) _ h
 
   ends : 117 ≤ get_or s 250 0

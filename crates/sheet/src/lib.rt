@@ -12,6 +12,7 @@ ghost use Rattle.sheet.specs.Bytes.{entries};
 use basis::Refusal;
 
 // The entries of 502 bytes, each low byte first.
+#[tactic(auto, unfolding(crate::specs::Bytes::entries))]
 pub fn entries_of(bytes: &[u8; 502]) -> [u16; 251]
     ensures { result ≡ entries bytes.now 251 }
 {
@@ -45,7 +46,7 @@ fn first_fault(sheet: &[u16; 251]) -> Option<usize>
 }
 
 // No entry is greater than the one before it; every entry is looked at, so that eight can be compared at a time.
-#[tactic(auto, unfolding(crate::specs::Pass::falling))]
+#[tactic(auto, using(crate::proofs::Sound::falling_none, crate::proofs::Sound::falling_next))]
 fn falls_throughout(sheet: &[u16; 251]) -> bool
     ensures { result ≡ falling sheet.now 250 }
 {

@@ -40,6 +40,7 @@ impl<'a> TryFrom<&'a [u16]> for StandingSheet<'a> {
 
     ghost try_from_gives = { λ entries r. r ≡ first (examination entries.now) (Ok entries.now) };
 
+    #[tactic(auto, using(crate::proofs::Rows::unrefused_stands))]
     fn try_from(entries: &'a [u16]) -> Result<StandingSheet<'a>, Refusal> {
         examine(entries)?;
         Ok(StandingSheet { entries })
