@@ -7,10 +7,10 @@ use mathlib.Core.Bool.{Bool, true, false, cond}
 use mathlib.Core.List.{List, [], ◌∷◌}
 use native.Mathlib.Numerals.{add-one}
 use native.Mathlib.Omega.{arith}
-use lib.Dec.{ltb, eqb}
-use lib.ListN.{length, drop, get_or, drop_of_length-le}
+use lib.Dec.{leb, ltb, eqb}
+use lib.ListN.{length, drop, get_or, drop_of_length-le, length-drop}
 use lib.Seq.{drop-cons}
-use borrow.Author.Tests.{lt-ltb, le-ltb, ltb-true}
+use borrow.Author.Tests.{lt-ltb, le-ltb, ltb-true, leb-true, leb-false}
 use Rattle.basis.proofs.Tests.{cases}
 use Rattle.groups.specs.Decode.{later_groups, last_group, extend, limit, decode}
 use Rattle.groups.proofs.Encode.{cap, cap_least}
@@ -44,17 +44,6 @@ unfolding later_groups
 later_last zero s at h b = rw (drop-cons s at 0 h, lt-ltb _ _ b)
 later_last (suc f) s at h b = rw (drop-cons s at 0 h, lt-ltb _ _ b)
 
-pub later_none : (s : List ℕ) (at : ℕ) → at < length s → 128 ≤ get_or s at 0 → later_groups 0 (drop at s) ≡ None
-unfolding later_groups
-later_none s at h b = rw (drop-cons s at 0 h, le-ltb _ _ b)
-
-pub later_more : (f : ℕ) (s : List ℕ) (at : ℕ) → 1 ≤ f → at < length s → 128 ≤ get_or s at 0
-    → later_groups f (drop at s) ≡ extend (get_or s at 0) (later_groups (f - 1) (drop (at + 1) s))
-later_more zero s at f₁ h b = absurd (omega arith)
-later_more (suc f) s at f₁ h b =
-    let e : suc f - 1 ≡ f = omega arith in
-    rw (add-one, e, drop-cons s at 0 h) (later_continued f (get_or s at 0) (drop (suc at) s) b)
-
 pub decode_end : (s : List ℕ) (at : ℕ) → length s ≤ at → decode (drop at s) ≡ None
 unfolding decode
 decode_end s at h = rw (drop_of_length-le s h)
@@ -66,32 +55,11 @@ pub decode_more : (s : List ℕ) (at : ℕ) → at < length s → 128 ≤ get_or
     → decode (drop at s) ≡ limit (extend (get_or s at 0) (later_groups 3 (drop (at + 1) s)))
 decode_more s at h b = rw (add-one, drop-cons s at 0 h) (first_continued (get_or s at 0) (drop (suc at) s) b)
 
--- the same of bytes that are known by an equation
+-- of no bytes
 pub none_at_end : (bs : List ℕ) → length bs ≡ 0 → decode bs ≡ None
 unfolding decode
 none_at_end [] h = refl
 none_at_end (b ∷ bs) h = absurd (omega arith)
-
-module _ {bs rest : List ℕ} {b : ℕ} (e : bs ≡ b ∷ rest) where
-  pub one_byte : b < 128 → decode bs ≡ Some (b, 1)
-  one_byte l = rw e (first_alone b rest l)
-
-  module _ {g : ℕ} (h : g ≡ b) (l : 128 ≤ b) where
-    limited : {p : Option (ℕ × ℕ)} → p ≡ extend g (later_groups 3 rest) → limit p ≡ decode bs
-    limited q = rw (q, h, e) (sym (first_continued b rest l))
-
-    pub none_later : None ≡ extend g (later_groups 3 rest) → None ≡ decode bs
-    unfolding limit
-    none_later q = limited q
-
-    module _ {v k : ℕ} (q : Some (v, k) ≡ extend g (later_groups 3 rest)) where
-      pub too_great : 2 ^ 32 ≤ v → None ≡ decode bs
-      unfolding limit
-      too_great t = rw (le-ltb v (2 ^ 32) t) at (limited q)
-
-      pub fits : v < 2 ^ 32 → Some (v, k) ≡ decode bs
-      unfolding limit
-      fits t = rw (lt-ltb v (2 ^ 32) t) at (limited q)
 
 -- a number below m of at most n bytes, which end within l
 pub record Within (m n l v k : ℕ) : Type 0 where
@@ -142,3 +110,9 @@ decode_bounded (b ∷ bs) =
 
 pub decode_within : (bs : List ℕ) (v k : ℕ) → decode bs ≡ Some (v, k) → Within (2 ^ 32) 5 (length bs) v k
 decode_within bs v k e = subst (Bounded (2 ^ 32) 5 (length bs)) e (decode_bounded bs)
+
+-- no number reaches beyond the end
+pub number_ends : (file : List ℕ) (at v k : ℕ) → decode (drop at file) ≡ Some (v, k) → at + k ≤ length file
+number_ends file at v k e =
+    cases (leb (length file) at) (λ t. let n = decode_end file at (leb-true (length file) at t) in absurd (cc (n, e)))
+    (λ t. omega (arith, (decode_within (drop at file) v k e).ends, length-drop at file, leb-false (length file) at t))

@@ -59,15 +59,6 @@ module _ (v w f : ℕ) {c i n g b : ℕ} {rest bs : List ℕ} (d : i ≡ c) (h :
   pub resumed_more : {c' : ℕ} → c' ≡ c + 1 → 128 ≤ g → resumed (v + g % 128 * w) (w * 128) (c' + 1) f bs ≡ resumed v w (c + 1) n rest
   resumed_more t l = let k : n ≡ suc f = omega arith in rw (t, e, k, ← h) (sym (one_more v w (c + 1) f g bs l))
 
--- the weight of a group that is read
-pub weight_most : (c : ℕ) → c ≤ 4 → 128 ^ c ≤ 2 ^ 28
-weight_most zero h = omega arith
-weight_most (suc zero) h = omega arith
-weight_most (suc (suc zero)) h = omega arith
-weight_most (suc (suc (suc zero))) h = omega arith
-weight_most (suc (suc (suc (suc zero)))) h = omega arith
-weight_most (suc (suc (suc (suc (suc c))))) h = absurd (omega arith)
-
 -- a group's share of the number fits
 pub share_most : {g w m : ℕ} → g ≤ 127 → w ≤ m → g * w ≤ 127 * m
 share_most = mul-le-mul

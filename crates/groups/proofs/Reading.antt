@@ -87,3 +87,6 @@ module _ (n : ℕ) (file numbers : List ℕ) (i at : ℕ) (s : SoFar n file numb
     pub so_far_extra : {r : Refusal} → extra at (drop at file) ≡ Err r → Err r ≡ numbers_in n file
     unfolding numbers_in
     so_far_extra z = rw (all_damage, z)
+
+-- what the reader gives where it ends
+pub ruleset so_far = (so_far_damaged, so_far_all, so_far_extra)

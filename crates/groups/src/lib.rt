@@ -41,6 +41,7 @@ fn later_groups(b: u64, later: &[u8]) -> Option<(u64, usize)>
 }
 
 // The number at the front of some bytes, and how many it takes.
+#[tactic(auto, using(crate::proofs::Decode::none_at_end, crate::proofs::Decode::first_alone, crate::proofs::Decode::first_continued), unfolding(crate::specs::Decode::limit))]
 fn first_number(bytes: &[u8]) -> Option<(u32, usize)>
     ensures { result ≡ decode bytes.now }
 {
@@ -54,6 +55,7 @@ fn first_number(bytes: &[u8]) -> Option<(u32, usize)>
 }
 
 // The number whose groups start at an offset: its value and how many bytes it takes; none where it is not in its shortest form.
+#[tactic(auto, using(crate::proofs::Decode::decode_end))]
 pub fn number_at(file: &[u8], at: usize) -> Option<(u32, usize)>
     ensures { result ≡ decode (drop at file.now) }
 {
@@ -69,6 +71,7 @@ pub fn nothing_after(file: &[u8], at: usize) -> Result<(), Refusal>
 }
 
 // The N numbers of a file, which are to be all that it holds, or what is refused of its bytes (6 or 7).
+#[tactic(auto, using(crate::proofs::Decode::number_ends, crate::proofs::Reading::so_far))]
 pub fn read_numbers<const N: usize>(file: &[u8]) -> Result<[u32; N], Refusal>
     ensures { result ≡ numbers_in N file.now }
 {
@@ -91,6 +94,7 @@ fn one_from(least: u32, n: u32) -> u32
 }
 
 // How many groups a number has, compared and not divided, so that the lengths of several are worked out at a time.
+#[tactic(auto, using(crate::proofs::Encode::encode_counted))]
 pub fn group_count(n: u32) -> u32
     ensures { Is result (length (encode n)) 5 }
 {
@@ -99,6 +103,7 @@ pub fn group_count(n: u32) -> u32
 
 // How many bytes some numbers have.
 // requires: the callers pass a job's numbers, or at most 200 whole rows of 25.
+#[tactic(auto, using(crate::proofs::Encode::all_counted))]
 pub fn numbers_length(numbers: &[u32]) -> usize
     requires { length numbers.now ≤ 5000 }
     ensures { result ≡ length (encode_all numbers.now) }
