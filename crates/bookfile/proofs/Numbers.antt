@@ -62,12 +62,6 @@ row_placed book k n r h =
     ∙ series_same (λ c. value_at book (place_of book k (n * c + r))) (λ c. get_or (values (25 * n) (drop k book)) (n * c + r) 0) 25 0
     (λ c a b. value_placed book k (25 * n) (n * c + r) (let m = below n 25 r c h (omega arith) in omega (arith, m))))
 
--- no number reaches beyond the end
-pub number_ends : (book : List ℕ) (at v k : ℕ) → decode (drop at book) ≡ Some (v, k) → at + k ≤ length book
-number_ends book at v k e =
-    cases (leb (length book) at) (λ t. differ (sym (decode_end book at (leb-true (length book) at t)) ∙ e))
-    (λ t. omega (arith, (decode_within (drop at book) v k e).ends, length-drop at book, leb-false (length book) at t))
-
 bytes_fit : (bs : List ℕ) → bytes_of (decode bs) ≤ length bs
 unfolding bytes_of
 bytes_fit bs = decoded (decode bs) (λ v k e. rw e (decode_within bs v k e).ends) (λ e. rw e (omega arith))
@@ -134,8 +128,3 @@ damage_last book k zero = rw add-zero refl
 damage_last book k (suc n) =
     let s : 25 * suc n ≡ suc n * 24 + suc n = omega arith in
     rw s (rw drop-drop at (sym (damage_add (suc n * 24) (suc n) k (drop k book) (omega arith))))
-
-pub moved_by_long : (book places : List ℕ) (r : ℕ) → length (moved_by book places r) ≡ length places
-unfolding moved_by moved
-moved_by_long book places zero = refl
-moved_by_long book places (suc r) = length-map (moved_by book places r) (next_at book) ∙ moved_by_long book places r

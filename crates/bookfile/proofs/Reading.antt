@@ -28,8 +28,11 @@ use Rattle.bookfile.proofs.Steps.{starts_at}
 use Rattle.bookfile.proofs.Parts.{stops, passes}
 
 -- where no count stands
-pub uncounted : (book out : List ℕ) → decode book ≡ None → (Err (BookDamaged 0) ≡ rows_read book out) × (out ≡ rows_left book out)
-uncounted book out e = let d = read_refused book out (no_count book out (unread_damaged book e)) in (sym d.0, sym d.1)
+pub uncounted : (book out : List ℕ) → decode book ≡ None → rows_read book out ≡ Err (BookDamaged 0)
+uncounted book out e = (read_refused book out (no_count book out (unread_damaged book e))).0
+
+pub uncounted_left : (book out : List ℕ) → decode book ≡ None → rows_left book out ≡ out
+uncounted_left book out e = (read_refused book out (no_count book out (unread_damaged book e))).1
 
 -- what damages no book damages no file
 undamaged : (e : Examined) → book_damage e ≡ nothing → e ≡ nothing

@@ -19,14 +19,14 @@ use Rattle.basis.proofs.Tests.{cases}
 use Rattle.basis.proofs.Searches.{first_fail_found, first_fail_next, first_fail_end}
 use Rattle.groups.specs.Decode.{last_group, extend, limit, decode}
 use Rattle.groups.specs.Numbers.{extra, damage, values, value_of, bytes_of}
-use Rattle.groups.proofs.Decode.{decoded, decode_end, decode_one, decode_more, later_end, later_last}
+use Rattle.groups.proofs.Decode.{decoded, decode_end, decode_one, decode_more, later_end, later_last, number_ends}
 use Rattle.groups.proofs.Front.{front, front_suc, front_all}
 use Rattle.groups.proofs.Reading.{damage_next, damage_here}
 use Rattle.book.specs.Book.{good, good_at, first_bad, bad_row}
 use Rattle.book.proofs.Columns.{series_at, series_long}
 use Rattle.bookfile.specs.Places.{single, value_at, next_at, step_at, place_of, starts, row_at, moved, moved_by, row_after, good_after, first_bad_at}
 use Rattle.book.specs.Columns.{series}
-use Rattle.bookfile.proofs.Numbers.{place_none, value_placed, number_ends, place_add, place_next}
+use Rattle.bookfile.proofs.Numbers.{place_none, value_placed, place_add, place_next, place_on, place_fits}
 
 pub step_number : (book : List ℕ) (at v k : ℕ) → decode (drop at book) ≡ Some (v, k) → record { value = v; next = at + k } ≡ step_at book at
 unfolding step_at value_at next_at value_of bytes_of
@@ -60,11 +60,11 @@ module _ (book : List ℕ) (at : ℕ) (s : decode (drop at book) ≡ None → �
       (λ t. let v = lt-ltb (get_or book (at + 1) 0 * 128 + get_or book at 0 % 128) 4294967296 (omega arith) in e ∙ simp (t, v))
 
   -- the step from it, by its first bytes
-  pub step_one : (a : ℕ) → a ≡ get_or book at 0 → a < 128 → record { value = a; next = at + 1 } ≡ step_at book at
-  step_one a e l = rw e (step_number book at (get_or book at 0) 1 (decode_one book at stands_here (rw e at l)))
+  pub step_one : get_or book at 0 < 128 → step_at book at ≡ record { value = get_or book at 0; next = at + 1 }
+  step_one l = sym (step_number book at (get_or book at 0) 1 (decode_one book at stands_here l))
 
-  pub step_two : (a b : ℕ) → a ≡ get_or book at 0 → b ≡ get_or book (at + 1) 0 → 128 ≤ a → b < 128 → record { value = b * 128 + a % 128; next = at + 2 } ≡ step_at book at
-  step_two a b e f l u = rw (e, f) (step_number book at _ 2 (stands_two (rw e at l) (rw f at u)))
+  pub step_two : 128 ≤ get_or book at 0 → get_or book (at + 1) 0 < 128 → step_at book at ≡ record { value = get_or book (at + 1) 0 * 128 + get_or book at 0 % 128; next = at + 2 }
+  step_two l u = sym (step_number book at _ 2 (stands_two l u))
 
 pub step_value : (book : List ℕ) (k m j at : ℕ) → at ≡ place_of book k j → j < m → (step_at book at).value ≡ get_or (values m (drop k book)) j 0
 unfolding step_at
@@ -141,6 +141,10 @@ starts_last book k n c e h =
     let l : c < length (take (c + 1) s) = omega (arith, length-take (c + 1) s, starts_long book k n) in
     ap (λ (t : List ℕ). get_or t c 0) e ∙ get_or-append (take (c + 1) s) (drop (c + 1) (replicate 25 k)) 0 c l ∙ get_or-take (c + 1) s c 0 (omega arith) ∙ starts_at book k n c h
 
+-- so each is within the book
+pub starts_within : (book : List ℕ) (k n c : ℕ) {places : List ℕ} → places ≡ front (replicate 25 k) (starts book k n) (c + 1) → c < 25 → k ≤ length book → get_or places c 0 ≤ length book
+starts_within book k n c e h l = rw (starts_last book k n c e h) (place_fits book k (n * c) l)
+
 map_at : (f : ℕ → ℕ) (l : List ℕ) (c : ℕ) → c < length l → get_or (map f l) c 0 ≡ f (get_or l c 0)
 map_at f [] c h = absurd (omega arith)
 map_at f (x ∷ l) zero h = refl
@@ -163,6 +167,15 @@ module _ (book places : List ℕ) (e : length places ≡ 25) where
   pub moved_at : (c : ℕ) → c < 25 → get_or (moved book places) c 0 ≡ (step_at book (get_or places c 0)).next
   unfolding moved step_at
   moved_at c h = map_at (next_at book) places c (omega (arith, e))
+
+-- what the walk from number to number is told
+pub ruleset walked = (number_ends, place_none, place_on, damage_stops, damage_goes, damage_ends)
+
+-- what the loop over the columns is told
+pub ruleset columns_started = (filled, whole, place_skip, starts_at, starts_long, starts_none, starts_last, starts_within)
+
+-- what the loop over the 25 places is told
+pub ruleset moved_on = (filled, unfilled, whole, row_long, moved_long, row_at_lem, moved_at)
 
 -- ---- The lowest bad row
 
@@ -209,3 +222,6 @@ module _ (book places at : List ℕ) (n r : ℕ) (s : Scan book places at n r) w
 pub first_bad_none : (rows : List ℕ) (n : ℕ) → first_bad n rows ≡ first_fail (good_at rows) 0 (n - 0)
 unfolding first_bad
 first_bad_none rows n = let e : n ≡ n - 0 = omega arith in ap (first_fail (good_at rows) 0) e
+
+-- what the two loops over rows are told
+pub ruleset row_by_row = (scan_next, scan_found, scan_end, row_bad, rows_good)

@@ -31,6 +31,7 @@ fn write_columns(rows: &[[u32; ROW]], out: &mut [u8])
 
 // Writes the book of some rows at the front of a buffer that has room for it.
 // requires: the writer has compared the count with 200, and the book's length with the buffer's.
+#[tactic(auto, using(crate::proofs::Pieces::book_length, crate::proofs::Pieces::book_written_lem, crate::proofs::Pieces::kept))]
 pub fn put_book(rows: &[[u32; ROW]], out: &mut [u8])
     requires { (length rows.now ≤ 200) × (length (book_of_rows rows.now) ≤ length out.old) }
     ensures { out.new ≡ book_of_rows rows.now ++ drop (length (book_of_rows rows.now)) out.old }

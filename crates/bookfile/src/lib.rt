@@ -55,6 +55,7 @@ fn read_counted(book: &[u8], n: u32, k: usize, rows: &mut [u32]) -> Result<usize
 }
 
 // Reads the rows of a book into rows that were lent, which stay as they are where it is refused or its rows do not fit.
+#[tactic(auto, using(crate::proofs::Reading::uncounted, crate::proofs::Reading::uncounted_left))]
 pub fn read(book: &[u8], rows: &mut [u32]) -> Result<usize, Refusal>
     ensures returned { result ≡ rows_read book.now rows.old }
     ensures buffer { rows.new ≡ rows_left book.now rows.old }

@@ -28,6 +28,7 @@ fn step_at(book: &[u8], at: usize) -> Step
 
 // The same where none is damaged: of one or two bytes, as most are, nothing has to be tested but where it ends.
 // requires: the reader has gone through the whole book and found no damage.
+#[tactic(auto, using(crate::proofs::Steps::stands_here, crate::proofs::Steps::stands_next, crate::proofs::Steps::step_one, crate::proofs::Steps::step_two))]
 pub fn sound_step(book: &[u8], at: usize) -> Step
     requires { decode (drop at book.now) ≡ None → ⊥ }
     ensures { result ≡ step_at book.now at }
@@ -50,6 +51,7 @@ pub fn sound_step(book: &[u8], at: usize) -> Step
 }
 
 // The n bytes from a place on are numbers of one byte each; every byte is looked at, so that sixteen can be compared at a time.
+#[tactic(auto, using(crate::proofs::Steps::single_next), unfolding(crate::specs::Places::single))]
 fn single_bytes(book: &[u8], at: usize, n: usize) -> bool
     requires { at + n ≤ length book.now }
     ensures { result ≡ single book.now at n }
@@ -62,6 +64,7 @@ fn single_bytes(book: &[u8], at: usize, n: usize) -> bool
 }
 
 // The place n numbers on, found one by one, or that of the first that is damaged.
+#[tactic(auto, using(crate::proofs::Steps::walked))]
 fn walk(book: &[u8], n: usize, at: usize) -> Result<usize, usize>
     ensures place { place_in result ≡ place_of book.now at n }
     ensures damage { walk_damage book.now result ≡ damage n at (drop at book.now) }
@@ -75,6 +78,7 @@ fn walk(book: &[u8], n: usize, at: usize) -> Result<usize, usize>
 }
 
 // The place n numbers on, at a damaged one that one's. Columns of small numbers are passed many bytes at a time.
+#[tactic(auto, using(crate::proofs::Numbers::single_placed))]
 fn skip(book: &[u8], n: usize, at: usize) -> usize
     requires { at ≤ length book.now }
     ensures { result ≡ place_of book.now at n }
@@ -99,6 +103,7 @@ pub struct Columns<'a> {
 
 impl Columns<'_> {
     // The places at which they start.
+    #[tactic(auto, using(crate::proofs::Steps::columns_started))]
     pub fn starts(&self) -> [usize; ROW]
         ensures { result ≡ starts self.now.book.now self.now.start self.now.count }
     {
@@ -120,6 +125,7 @@ impl Columns<'_> {
 }
 
 // The row at 25 places, which move on to the next.
+#[tactic(auto, using(crate::proofs::Steps::moved_on))]
 pub fn next_row(book: &[u8], places: &mut [usize; ROW]) -> [u32; ROW]
     ensures returned { result ≡ row_at book.now places.old }
     ensures moving { places.new ≡ moved book.now places.old }

@@ -20,6 +20,7 @@ fn good_row(numbers: [u32; ROW]) -> bool
 
 impl Columns<'_> {
     // Refuses the lowest bad row of columns that start at 25 places.
+    #[tactic(auto, using(crate::proofs::Steps::row_by_row))]
     pub fn examine(&self, places: [usize; ROW]) -> Result<(), Refusal>
         ensures { result ≡ bad_row self.now.count (first_bad_at self.now.book.now places self.now.count) }
     {
@@ -62,6 +63,7 @@ impl Columns<'_> {
 }
 
 // Refuses the lowest bad one of some rows. One search for these and for a book's would take a closure that has its places, and a contract longer than both.
+#[tactic(auto, using(basis::proofs::Searches::scan, crate::proofs::Flat::row_good, crate::proofs::Steps::first_bad_none, crate::proofs::Steps::row_bad, crate::proofs::Steps::rows_good))]
 pub fn examine_rows(rows: &[[u32; ROW]]) -> Result<(), Refusal>
     ensures { result ≡ bad_row (length rows.now) (first_bad (length rows.now) (flat rows.now)) }
 {
