@@ -7,16 +7,14 @@ use mathlib.Core.List.{List}
 use native.Mathlib.Nat.{add-zero, add_assoc}
 use native.Mathlib.Numerals.{add-one}
 use native.Mathlib.Omega.{arith}
-use lib.Dec.{T, leb, ltb→lt}
-use lib.ListN.{length, drop, get_or, length-drop, length-map}
+use lib.Dec.{T, ltb→lt}
+use lib.ListN.{length, drop, get_or, length-drop}
 use lib.Seq.{drop-drop}
-use borrow.Author.Tests.{leb-true, leb-false}
 use Rattle.basis.specs.Refusal.{nothing}
-use Rattle.basis.proofs.Tests.{cases, both_left, both_right}
+use Rattle.basis.proofs.Tests.{both_left, both_right}
 use Rattle.groups.specs.Decode.{decode}
 use Rattle.groups.specs.Numbers.{damage, values, bytes_of, offset_after}
-use Rattle.groups.proofs.Decode.{decoded, decode_end, decode_one, decode_within}
-use Rattle.groups.proofs.Numbers.{differ}
+use Rattle.groups.proofs.Decode.{decoded, decode_one, decode_within}
 use Rattle.groups.proofs.Places.{values_at, offset_add, offset_stays, damage_add}
 use Rattle.groups.proofs.Reading.{damage_here}
 use Rattle.book.specs.Columns.{series, across}

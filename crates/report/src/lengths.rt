@@ -7,12 +7,14 @@ ghost use Rattle.report.specs.Report.{check_line, check_lines, height_line, wind
 use crate::text::digit_count;
 use section5::{CHECKS, Heights};
 
+#[tactic(auto, using(crate::proofs::LineLengths::check_line_length))]
 fn check_length(check: u64, verdict: u64, figure: u64) -> usize
     ensures { Is result (length (check_line check verdict figure)) 63 }
 {
     digit_count(check) + digit_count(verdict) + digit_count(figure) + 3
 }
 
+#[tactic(auto, using(crate::proofs::CheckLines::no_verdict, crate::proofs::CheckLines::no_figure))]
 pub(crate) fn checks_length(verdicts: [u8; CHECKS], figures: [u64; CHECKS]) -> usize
     ensures { Is result (length (check_lines 1 verdicts figures)) (63 * checks) }
 {
@@ -23,6 +25,7 @@ pub(crate) fn checks_length(verdicts: [u8; CHECKS], figures: [u64; CHECKS]) -> u
     sum
 }
 
+#[tactic(auto, using(crate::proofs::LineLengths::pair_line_length), unfolding(crate::specs::Report::height_line))]
 pub(crate) fn height_line_length(heights: Heights) -> usize
     ensures { Is result (length (height_line heights)) 49 }
 {
@@ -33,12 +36,14 @@ pub(crate) fn height_line_length(heights: Heights) -> usize
     }
 }
 
+#[tactic(auto, using(crate::proofs::LineLengths::pair_line_length))]
 pub(crate) fn wind_line_length(wk: u64, mw: u64) -> usize
     ensures { Is result (length (wind_line wk mw)) 47 }
 {
     digit_count(wk) + digit_count(mw) + 7
 }
 
+#[tactic(auto, using(crate::proofs::LineLengths::column_line_length))]
 pub(crate) fn column_line_length(z: u64) -> usize
     ensures { Is result (length (column_line z)) 28 }
 {

@@ -21,6 +21,7 @@ pub const ENOUGH: usize = 168;
 pub const SUPPORT_ENOUGH: usize = 120;
 
 // How many bytes the report of a judgement has.
+#[tactic(auto, unfolding(crate::specs::Report::report))]
 fn report_length(g: Judgement) -> usize
     ensures { result ≡ length (report g) }
 {

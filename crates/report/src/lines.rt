@@ -6,7 +6,7 @@ use crate::text::Text;
 use section5::{CHECKS, Heights, Judgement};
 
 impl Text<'_> {
-    #[tactic(auto, using(crate::proofs::Put::room_first, crate::proofs::Put::room_then, crate::proofs::Put::put_then), unfolding(crate::specs::Report::check_line))]
+    #[tactic(auto, using(crate::proofs::Put::room_first), unfolding(crate::specs::Report::check_line))]
     fn check(&mut self, check: u64, verdict: u64, figure: u64)
         requires { Room (check_line check verdict figure) self.old }
         ensures { Put (check_line check verdict figure) self.old self.new }
@@ -16,6 +16,7 @@ impl Text<'_> {
         self.number(figure, b'\n');
     }
 
+    #[tactic(auto, using(crate::proofs::CheckLines::no_verdict, crate::proofs::CheckLines::no_figure, crate::proofs::Put::unfinished_end))]
     pub(crate) fn checks(&mut self, verdicts: [u8; CHECKS], figures: [u64; CHECKS])
         requires { Room (check_lines 1 verdicts figures) self.old }
         ensures { Put (check_lines 1 verdicts figures) self.old self.new }
@@ -26,7 +27,7 @@ impl Text<'_> {
     }
 
     // Two numbers, with which a line ends. The word before them is its caller's, so that its bytes are stored without a loop.
-    #[tactic(auto, using(crate::proofs::Put::room_first, crate::proofs::Put::room_then, crate::proofs::Put::put_then), unfolding(crate::specs::Report::pair))]
+    #[tactic(auto, using(crate::proofs::Put::room_first, crate::proofs::Put::room_then), unfolding(crate::specs::Report::pair))]
     pub(crate) fn pair(&mut self, first: u64, second: u64)
         requires { Room (pair first second) self.old }
         ensures { Put (pair first second) self.old self.new }

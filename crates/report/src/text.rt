@@ -13,6 +13,7 @@ pub(crate) struct Text<'a> {
 }
 
 // How many digits a number has.
+#[tactic(auto, using(crate::proofs::Digits::digits_counted, crate::proofs::Digits::one_length))]
 pub(crate) fn digit_count(n: u64) -> usize
     ensures { Is result (length (digits n)) 20 }
 {
@@ -32,6 +33,7 @@ impl<'a> Text<'a> {
         Text { out, at: 0 }
     }
 
+    #[tactic(auto, using(crate::proofs::Stores::part_stored))]
     pub(crate) fn word(&mut self, word: &[u8])
         requires { Room word.now self.old }
         ensures { Put word.now self.old self.new }
@@ -42,6 +44,7 @@ impl<'a> Text<'a> {
     }
 
     // A number, its last digit first, and the byte after it. The library's itoa does the same with a table of 200 bytes, which a unit would burn.
+    #[tactic(auto, using(crate::proofs::Digits::more_length, crate::proofs::Numbers::number_then_length, crate::proofs::Numbers::number_then_stored))]
     pub(crate) fn number(&mut self, n: u64, after: u8)
         requires { Room (number_then n after) self.old }
         ensures { Put (number_then n after) self.old self.new }

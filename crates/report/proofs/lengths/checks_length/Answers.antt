@@ -1,11 +1,9 @@
 -- `checks_length` meets its contract. Assumes nothing.
 use mathlib.Core.Path.{ap}
-use mathlib.Core.Logic.{inl, inr}
 use native.Mathlib.Omega.{arith}
 use lib.ListN.{length, length-append}
-use Prim.Native.Nat.{◌+◌}
 use borrow.Author.Rules.{rules}
-use Rattle.report.proofs.CheckLines.{lines_next, no_verdict, no_figure}
+use Rattle.report.proofs.CheckLines.{lines_next}
 use Rattle.report.proofs.lengths.checks_length.Goals as goal
 
 pub loop-i-preserved : goal.loop-i-preserved
@@ -15,11 +13,3 @@ loop-i-preserved c =
     let m = rw (lines_next _ s.0.0 s.0.1, length-append, ← s.2) at c.loop-i.invariant.2 in
     let k = rw (s.1, ← s.2, c.from.ensures) at c.check_length-sum.ensures.is in
     (search rules, tt, omega arith, omega arith, omega arith)
-
-pub returns : goal.returns
-returns c =
-    let s = c.in-None.ensures.steps in
-    elim s.0 [
-      | inl e ↦ let m = ap length (no_verdict (c.loop-i.i-iterator.count + 1) _ c.loop-i.i-iterator.iter.b.rest.now e.1.0) in omega arith
-      | inr e ↦ let m = ap length (no_figure (c.loop-i.i-iterator.count + 1) c.loop-i.i-iterator.iter.a.rest.now _ e.1.0) in omega arith
-    ]

@@ -1,8 +1,7 @@
 -- `Text::checks` meets its contract. Assumes nothing.
-use mathlib.Core.Logic.{inl, inr}
 use borrow.Author.Rules.{rules}
-use Rattle.report.proofs.Put.{unfinished_room, unfinished_next, unfinished_end}
-use Rattle.report.proofs.CheckLines.{lines_next, no_verdict, no_figure}
+use Rattle.report.proofs.Put.{unfinished_room, unfinished_next}
+use Rattle.report.proofs.CheckLines.{lines_next}
 use Rattle.report.proofs.text.Text.checks.Goals as goal
 
 pub check-requires : goal.check-requires
@@ -16,11 +15,3 @@ loop-i-preserved c =
     let s = c.in-Some.ensures.steps in
     let u = rw (lines_next _ s.0.0 s.0.1) at c.loop-i.invariant.2 in
     (search rules, tt, rw s.2 (unfinished_next _ u (rw (s.1, c.from.ensures) at c.check.ensures)))
-
-pub returns : goal.returns
-returns c =
-    let s = c.in-None.ensures.steps in
-    elim s.0 [
-      | inl e ↦ unfinished_end (rw (no_verdict _ _ _ e.1.0) at c.loop-i.invariant.2)
-      | inr e ↦ unfinished_end (rw (no_figure _ _ _ e.1.0) at c.loop-i.invariant.2)
-    ]
