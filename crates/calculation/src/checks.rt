@@ -32,6 +32,7 @@ fn due_of(exempt: bool, v: u8) -> u8
 }
 
 // The span cancels in the first comparison, which would not fit 64 bits with it.
+#[tactic(auto, using(crate::proofs::Limits::deflects_short))]
 fn deflects_at(load: u64, span: u64, scale: u64) -> bool
     requires { (load ≤ 21000000000000000) × (0 < span) × (span ≤ 200) × (scale ≤ 107779200000000000) }
     ensures { result ≡ deflects load span scale }

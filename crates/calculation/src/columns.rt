@@ -48,6 +48,7 @@ pub fn column_of(sheet: &StandingSheet<'_>, tube: Tube, z: Slenderness) -> Colum
 }
 
 // The greatest force that check 7 passes.
+#[tactic(auto, using(basis::proofs::Fits::is_most, crate::proofs::Most::limit7_most), unfolding(crate::specs::Division::limit7))]
 pub(crate) fn limit7_of(c: Column) -> u64
     ensures figure { Is result (limit7 c) 100245 }
 
@@ -58,6 +59,7 @@ pub(crate) fn limit7_of(c: Column) -> u64
 }
 
 // The greatest force that check 8 passes beside a moment.
+#[tactic(auto, using(basis::proofs::Fits::is_most, crate::proofs::Most::limit8_most), unfolding(crate::specs::Division::limit8))]
 pub(crate) fn limit8_of(c: Column, m: u64) -> u64
     requires { m ≤ 205 * c.modulus }
     ensures { Is result (limit8 c m) 100245 }
@@ -66,6 +68,7 @@ pub(crate) fn limit8_of(c: Column, m: u64) -> u64
 }
 
 // Check 7 of a force.
+#[tactic(auto, using(crate::proofs::Stability::bears_within))]
 pub fn bears_of(c: Column, n: u64) -> bool
     ensures { result ≡ bears c n }
 {
@@ -73,6 +76,7 @@ pub fn bears_of(c: Column, n: u64) -> bool
 }
 
 // Check 8 of a force beside a moment.
+#[tactic(auto, using(crate::proofs::Stability::bends_beyond, crate::proofs::Stability::bends_within))]
 pub fn bends_of(c: Column, n: u64, m: u64) -> bool
     ensures { result ≡ bends c n m }
 {

@@ -124,6 +124,7 @@ const FACTORS: [[[u64; 2]; 3]; 2] = [
     [[180, 200], [180, 200], [180, 200]],
 ];
 
+#[tactic(auto, using(basis::proofs::Fits::is_most, section5::proofs::LengthFactor::factor_at_most), unfolding(section5::specs::Section5::factor_at, section5::specs::Section5::factors))]
 fn factor_at(family: usize, row: usize, column: usize) -> u64
     requires { (family < 2) × (row < 3) × (column < 2) }
     ensures { Is result (factor_at family row column) 200 }
@@ -157,6 +158,7 @@ fn tie_column(ties: u32) -> usize
     if ties < 3 { 0 } else { 1 }
 }
 
+#[tactic(auto, unfolding(section5::specs::Section5::length_factor))]
 pub(crate) fn factor_of(family: Family, lb: u32, ties: u32) -> u64
     ensures { Is result (length_factor (family_number family) lb ties) 200 }
 {

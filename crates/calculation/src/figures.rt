@@ -22,6 +22,7 @@ pub fn shape_of(enclosure: Enclosure, wall: Wall, shield: u32) -> u64
 
 // wk, N/m², of height factor, shape and basic wind.
 // requires: judge and formwork show the bounds by examining the job.
+#[tactic(auto, using(basis::proofs::Fits::is_most, crate::proofs::Ceil::up, crate::proofs::Most::wind_pressure_most), unfolding(crate::specs::Whole::wind_pressure))]
 pub fn wind_pressure(exposure: u32, shape: u64, wind: u32) -> u64
     requires { (exposure ≤ 4000) × (shape ≤ 312000) × (wind ≤ 2000) }
     ensures { Is result (wind_pressure exposure shape wind) 17472 }
@@ -44,6 +45,7 @@ pub fn wind_moment(w: u64, la: u32, step: u32) -> u64
 
 // A slenderness in tenths, above 250.0 up to a whole number.
 // requires: column_slenderness shows it of an accepted job, formwork of an accepted support.
+#[tactic(auto, using(crate::proofs::Ceil::up, crate::proofs::Slenderness::rounded_tenths_fine, crate::proofs::Slenderness::rounded_tenths_coarse))]
 pub fn rounded_tenths(t: u64) -> Slenderness
     requires { t ≤ 2930 }
     ensures { result ≡ rounded_tenths t }
@@ -57,6 +59,7 @@ pub fn rounded_tenths(t: u64) -> Slenderness
 }
 
 // Z, in tenths.
+#[tactic(auto, using(crate::proofs::Ceil::up), unfolding(crate::specs::Whole::column_tenths, crate::specs::Whole::column_slenderness))]
 pub fn column_slenderness(j: &BoundedJob) -> Slenderness
     ensures { result ≡ column_slenderness j.now }
 {
@@ -68,6 +71,7 @@ pub fn column_slenderness(j: &BoundedJob) -> Slenderness
 }
 
 // The slenderness of check 6, up.
+#[tactic(auto, using(crate::proofs::Ceil::up), unfolding(crate::specs::Whole::slenderness))]
 fn slenderness_of(j: &BoundedJob) -> u64
     ensures { result ≡ slenderness j.now }
 {
@@ -94,6 +98,7 @@ pub(crate) fn transom_load(j: &BoundedJob) -> u64
 }
 
 // The transom's deflection, µm.
+#[tactic(auto, using(crate::proofs::Ceil::up), unfolding(crate::specs::Whole::transom_deflection))]
 fn transom_deflection(j: &BoundedJob) -> u64
     ensures { result ≡ transom_deflection j.now }
 {
@@ -120,6 +125,7 @@ pub(crate) fn ledger_load(j: &BoundedJob) -> u64
 }
 
 // The ledger's deflection, µm.
+#[tactic(auto, using(crate::proofs::Ceil::up), unfolding(crate::specs::Whole::ledger_deflection))]
 fn ledger_deflection(j: &BoundedJob) -> u64
     ensures { result ≡ ledger_deflection j.now }
 {
@@ -146,6 +152,7 @@ pub(crate) fn face_of(ties: u32, step: u32, la: u32) -> u64
 }
 
 // N.
+#[tactic(auto, using(basis::proofs::Fits::is_most, crate::proofs::Ceil::up, crate::proofs::Most::tie_force_most), unfolding(crate::specs::Whole::tie_force))]
 pub(crate) fn tie_force(j: &BoundedJob, e: Effects) -> u64
     ensures { Is result (tie_force j.now e.wk) 900000 }
 {

@@ -76,6 +76,7 @@ impl Pole {
     }
 
     // At how many of them check 7 passes, and check 8 where it is due.
+    #[tactic(auto, using(crate::proofs::Stability::height_count_calm, crate::proofs::Stability::height_count_due))]
     pub fn height_count(self, m: u64, exempt: bool) -> u64
         ensures { Is result (height_count self.column self.load self.weight m exempt) 6001 }
     {
@@ -102,6 +103,7 @@ fn permitted_of(family: Family, h: u64) -> u64
 
 // Both heights of a count of heights.
 // requires: judge counts no more heights.
+#[tactic(auto, using(crate::proofs::Stability::heights_at))]
 pub fn heights_of(family: Family, count: u64) -> Heights
     requires { count ≤ 6001 }
     ensures { result ≡ heights (family_number family) count }

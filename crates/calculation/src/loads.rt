@@ -52,6 +52,7 @@ fn fittings_of(j: &BoundedJob) -> u64
 }
 
 // L.
+#[tactic(auto, using(basis::proofs::Fits::is_most, crate::proofs::Most::deck_live_most), unfolding(crate::specs::Whole::deck_live))]
 fn deck_live(j: &BoundedJob) -> u64
     ensures { Is result (deck_live j.now) 1110000000 }
 {
@@ -81,6 +82,7 @@ pub fn raised_by(l: Load, weight: u32, h: u32) -> Load
 }
 
 // N.
+#[tactic(auto, using(basis::proofs::Fits::is_most, crate::proofs::Ceil::up, crate::proofs::Most::force_most), unfolding(crate::specs::Whole::force))]
 pub fn force_of(l: Load) -> u64
     ensures { Is result (force l) 1543200 }
 {
@@ -88,6 +90,7 @@ pub fn force_of(l: Load) -> u64
 }
 
 // Nw.
+#[tactic(auto, using(basis::proofs::Fits::is_most, crate::proofs::Ceil::up, crate::proofs::Most::force_wind_most), unfolding(crate::specs::Whole::force_wind))]
 pub fn force_wind_of(l: Load) -> u64
     ensures { Is result (force_wind l) 1543200 }
 {
