@@ -31,6 +31,7 @@ fn load_of(s: &BoundedSupport) -> Load
 }
 
 // wk, N/m².
+#[tactic(auto, using(basis::proofs::Fits::is_most, crate::proofs::Most::wk_most), unfolding(crate::specs::Whole::wk))]
 fn pressure_of(s: &BoundedSupport) -> u64
     ensures { Is result (wk s.now) 17472 }
 {
@@ -38,6 +39,7 @@ fn pressure_of(s: &BoundedSupport) -> u64
 }
 
 // Z, in tenths.
+#[tactic(auto, using(calculation::proofs::Ceil::up), unfolding(crate::specs::Whole::column_tenths, crate::specs::Whole::column_slenderness))]
 fn slenderness_of(s: &BoundedSupport) -> Slenderness
     ensures { result ≡ column_slenderness s.now }
 {
@@ -46,6 +48,7 @@ fn slenderness_of(s: &BoundedSupport) -> Slenderness
 }
 
 // The row of eleven, from the column, Mw, N and Nw; 0 where a check does not apply.
+#[tactic(auto, using(crate::proofs::Ways::rowed))]
 fn verdicts_of(c: Column, s: &BoundedSupport, m: u64, n: u64, nw: u64) -> [u8; CHECKS]
     ensures { result ≡ verdicts c s.now m n nw }
 {

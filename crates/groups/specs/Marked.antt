@@ -1,6 +1,6 @@
 -- The marked cases of document 01 on single numbers, and the greatest number.
 -- Assumes nothing.
-use Rattle.std.specs.Prelude.{ℕ, refl, List, [], ◌∷◌}
+use Rattle.std.specs.Prelude.{refl, List, [], ◌∷◌}
 use Rattle.basis.specs.Marked.{Row, row, Hold, number_and_place}
 use Rattle.groups.specs.Encode.{groups, encode}
 use Rattle.groups.specs.Decode.{last_group, extend, later_groups, limit, decode}

@@ -2,11 +2,16 @@
 -- Assumes nothing.
 use mathlib.Core.Path.{◌≡◌, refl}
 use Prim.Native.Nat.{◌≤◌}
+use Rattle.basis.specs.Refusal.{nothing}
 use Rattle.basis.proofs.Tests.{within_le}
 use Rattle.kinds.proofs.Read.{family_own, tube_own, boards_own, enclosure_own, wall_own, soil_own}
 use Rattle.job.specs.declared.Job.{Job}
 use Rattle.job.specs.Ranges.{ranges}
 use Rattle.job.specs.Rows.{Inside, Stands}
+use Rattle.job.specs.Examine.{examination}
+use Rattle.job.specs.Bounds.{Bounds}
+use Rattle.job.proofs.Bounds.{bounds}
+use Rattle.job.proofs.Rows.{unrefused_stands}
 use Rattle.job.specs.Read.{as_read}
 
 module _ {j : Job} (h : Stands j) where
@@ -38,3 +43,11 @@ module _ {j : Job} (h : Stands j) where
   read_own =
       rw (family_own j.family family_is.0 family_is.1, tube_own j.tube tube_is.0 tube_is.1, boards_own j.boards boards_is.0 boards_is.1, enclosure_own j.enclosure enclosure_is.0 enclosure_is.1, wall_own j.wall wall_is.0 wall_is.1, soil_own j.soil soil_is.0 soil_is.1)
       refl
+
+-- of a job of which examining refuses nothing
+module _ (j : Job) (e : examination j ≡ nothing) where
+  pub passed_bounds : Bounds j
+  passed_bounds = bounds j (unrefused_stands j e)
+
+  pub passed_own : as_read j ≡ j
+  passed_own = read_own (unrefused_stands j e)

@@ -1,6 +1,6 @@
 -- What is refused of a job is what the table says: row by row, and where none applies.
 -- Assumes nothing.
-use mathlib.Core.Path.{◌≡◌, ◌∙◌, refl, ap, sym}
+use mathlib.Core.Path.{◌≡◌, ◌∙◌, refl, ap}
 use mathlib.Core.Bool.{Bool, ◌||◌, true}
 use mathlib.Core.List.{◌∷◌}
 use mathlib.Core.Logic.{◌⊎◌, inl, inr, ⊎_elim}
@@ -9,7 +9,7 @@ use native.Mathlib.Omega.{arith}
 use lib.ListN.{set}
 use lib.Dec.{eqb, leb, ltb}
 use borrow.Author.Tests.{ltb-true, ltb-false, leb-true, leb-false, eqb-true, eqb-false, lt-ltb, le-ltb, le-leb, lt-leb, eq-eqb, ne_eqb}
-use Rattle.basis.specs.Refusal.{nothing, unless, first, Examined}
+use Rattle.basis.specs.Refusal.{nothing, unless, first}
 use Rattle.basis.specs.declared.Refusal.TheVariants.{FieldRange, Contradiction, UnfitWall}
 use Rattle.basis.specs.Rows.{Some, Refused, Follows}
 use Rattle.basis.proofs.Tests.{cases, within_le}
@@ -88,10 +88,6 @@ module _ (j : Job) where
 -- a job of which nothing is refused stands
 pub unrefused_stands : (j : Job) → examination j ≡ nothing → Stands j
 unrefused_stands j = unrefused (follows j)
-
--- the same of what examining it answered
-pub stood : {answer : Examined} (j : Job) → answer ≡ examination j → answer ≡ nothing → Stands j
-stood j e f = unrefused_stands j (sym e ∙ f)
 
 -- a job that stands does so at every height that field 7 allows
 pub stands_at : (j : Job) (H : ℕ) → Stands j → Inside (job_of (set (numbers j) 6 H)) 7 → Stands (job_of (set (numbers j) 6 H))

@@ -100,6 +100,7 @@ impl TryFrom<Job> for BoundedJob {
 
     ghost try_from_gives = { λ j r. r ≡ first (examination j) (Ok j) };
 
+    #[tactic(auto, using(crate::proofs::Fields::passed_bounds, crate::proofs::Fields::passed_own))]
     fn try_from(j: Job) -> Result<BoundedJob, Refusal> {
         j.examine()?;
         Ok(BoundedJob::read(j))

@@ -40,6 +40,7 @@ pub enum FileJob {
 }
 
 // A first number of 3 marks a support.
+#[tactic(auto, using(crate::proofs::Reading::marks_number, crate::proofs::Reading::marks_none))]
 fn marks_support(file: &[u8]) -> bool
     ensures { result ≡ marks_support file.now }
 {

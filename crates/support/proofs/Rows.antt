@@ -1,11 +1,11 @@
 -- What is refused of a support is what the table says.
 -- Assumes nothing.
-use mathlib.Core.Path.{◌≡◌, sym, ◌∙◌}
+use mathlib.Core.Path.{◌≡◌}
 use mathlib.Core.Bool.{true}
 use mathlib.Core.List.{◌∷◌}
 use mathlib.Core.Logic.{◌⊎◌, inl, inr, ⊎_elim}
 use Prim.Native.Nat.{ℕ}
-use Rattle.basis.specs.Refusal.{nothing, Examined}
+use Rattle.basis.specs.Refusal.{nothing}
 use Rattle.basis.specs.declared.Refusal.TheVariants.{FieldRange}
 use Rattle.basis.specs.Rows.{Some, Refused, Follows}
 use Rattle.basis.proofs.Lowest.{lowest_none, lowest_is, lowest_every}
@@ -33,10 +33,6 @@ module _ (s : Support) where
 -- a support of which nothing is refused stands
 pub unrefused_stands : (s : Support) → examination s ≡ nothing → Stands s
 unrefused_stands s = unrefused (follows s)
-
--- the same of what examining it answered
-pub stood : {answer : Examined} (s : Support) → answer ≡ examination s → answer ≡ nothing → Stands s
-stood s e f = unrefused_stands s (sym e ∙ f)
 
 pub told : Told
 told = record { told = follows }

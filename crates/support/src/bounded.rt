@@ -74,6 +74,7 @@ impl TryFrom<Support> for BoundedSupport {
 
     ghost try_from_gives = { λ s r. r ≡ first (examination s) (Ok s) };
 
+    #[tactic(auto, using(crate::proofs::Fields::passed_bounds, crate::proofs::Fields::passed_own))]
     fn try_from(s: Support) -> Result<BoundedSupport, Refusal> {
         s.examine()?;
         Ok(BoundedSupport::read(s))
