@@ -12,8 +12,12 @@ use support::Support;
 // How many files a run reads at most.
 const FILES_MOST: u64 = 1000000;
 
-// Where files that differ are counted.
-const DIFFERS: usize = 9;
+// How many files are answered as recorded, by the refusal's number, 0 for none; and how many are not.
+#[derive(Clone, Copy)]
+struct Counts {
+    agree: [u64; 8],
+    differ: u64,
+}
 
 // The number and the place of a refusal.
 type Refused = (u64, u64);
@@ -47,10 +51,8 @@ fn writes(j: Unexamined, length: usize, answer: Result<usize, Refused>, left: &[
     if write(j, part) != answer {
         return false;
     }
-    match out.strip_prefix(left) {
-        Some(rest) => rest.iter().all(|b| *b == 165),
-        None => false,
-    }
+    out.strip_prefix(left)
+        .is_some_and(|rest| rest.iter().all(|b| *b == 165))
 }
 
 // With room, in the file's own length, and in a byte less, where every byte is untouched.
@@ -59,7 +61,7 @@ fn writes_back(j: Unexamined, file: &[u8]) -> bool {
     n != 0
         && writes(j, 96, Ok(n), file)
         && writes(j, n, Ok(n), file)
-        && writes(j, n - 1, Err((8, n as u64)), &[])
+        && writes(j, n - 1, Err(refused(Refusal::TooShort(n as u64))), &[])
 }
 
 // The job of a file's numbers, whatever of them is out of range; refused where the bytes do not stand.
@@ -102,32 +104,29 @@ fn agrees<R: Print>(
     Ok(true)
 }
 
-// Where a record is counted: by its refusal's number, 0 for none, or as one that differs.
-fn check<R: Print>(rt: &R, record: &[u8; 83], index: u64) -> io::Result<usize> {
+// Whether a record's file is answered as it says; a line where it is not.
+fn check<R: Print>(rt: &R, record: &[u8; 83], index: u64) -> io::Result<bool> {
     let Some(file) = record[3..83].get(..usize::from(record[2])) else {
         println!(rt; "a record has no such length: file {index}")?;
-        return Ok(DIFFERS);
+        return Ok(false);
     };
     let recorded = match (u64::from(record[0]), u64::from(record[1])) {
         (0, 0) => Ok(()),
         refusal => Err(refusal),
     };
-    if agrees(rt, file, recorded, index)? {
-        Ok(usize::from(record[0]))
-    } else {
-        Ok(DIFFERS)
-    }
+    agrees(rt, file, recorded, index)
 }
 
 // Counts every record; gives how many there are.
-fn check_all<R: Print, F: Read>(rt: &R, from: &mut F, counts: &mut [u64]) -> io::Result<u64> {
+fn check_all<R: Print, F: Read>(rt: &R, from: &mut F, counts: &mut Counts) -> io::Result<u64> {
     for index in 0..FILES_MOST {
         let mut record = [0; 83];
         if from.read_exact(&mut record).is_err() {
             return Ok(index);
         }
-        let place = check(rt, &record, index)?;
-        if let Some(count) = counts.get_mut(place) {
+        if !check(rt, &record, index)? {
+            counts.differ = counts.differ.saturating_add(1);
+        } else if let Some(count) = counts.agree.get_mut(usize::from(record[0])) {
             *count = count.saturating_add(1);
         }
     }
@@ -138,14 +137,15 @@ fn main(rt: HostRuntime) -> io::Result<()> {
     let Ok(mut file) = fs::open(&rt, "files.bin") else {
         return println!(rt; "no files.bin");
     };
-    let mut counts = [0u64; 10];
+    let mut counts = Counts {
+        agree: [0; 8],
+        differ: 0,
+    };
     let files = check_all(&rt, &mut file, &mut counts)?;
     println!(rt; "files {files}")?;
-    println!(rt; "read {}", counts[0])?;
-    println!(rt; "refused 3 {}", counts[3])?;
-    println!(rt; "refused 4 {}", counts[4])?;
-    println!(rt; "refused 5 {}", counts[5])?;
-    println!(rt; "refused 6 {}", counts[6])?;
-    println!(rt; "refused 7 {}", counts[7])?;
-    println!(rt; "differ {}", counts[9])
+    println!(rt; "read {}", counts.agree[0])?;
+    for (number, count) in counts.agree.iter().enumerate().skip(3) {
+        println!(rt; "refused {number} {count}")?;
+    }
+    println!(rt; "differ {}", counts.differ)
 }
