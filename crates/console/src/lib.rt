@@ -53,20 +53,17 @@ fn length_of<F: Read>(from: &mut F, first: usize) -> io::Result<u64> {
     Ok(length)
 }
 
-// What there is of column.dat: its length, and its first bytes.
-#[derive(Clone, Copy)]
+// What there is of column.dat: its length, and its first bytes. One that is missing counts as empty, the default.
+#[derive(Clone, Copy, Default)]
 struct Sheet<'a> {
     length: u64,
     first: &'a [u8],
 }
 
-// Reads column.dat, its first bytes into a buffer. One that is missing counts as empty.
+// Reads column.dat, its first bytes into a buffer.
 fn read_sheet<'a, R: Files>(rt: &R, bytes: &'a mut [u8]) -> io::Result<Sheet<'a>> {
     let mut file = match fs::open(rt, "column.dat") {
-        Err(e) if e.kind() == ErrorKind::NotFound => return Ok(Sheet {
-            length: 0,
-            first: &[],
-        }),
+        Err(e) if e.kind() == ErrorKind::NotFound => return Ok(Sheet::default()),
         file => file?,
     };
     let first = first_bytes(&mut file, bytes);
@@ -80,13 +77,7 @@ pub fn run<R: Files + Input + Print + Eprint>(rt: &R) -> io::Result<()>
 {
     let mut bytes = [0; 502];
     let found = read_sheet(rt, &mut bytes);
-    let sheet = match &found {
-        Ok(sheet) => *sheet,
-        Err(_) => Sheet {
-            length: 0,
-            first: &[],
-        },
-    };
+    let sheet = found.as_ref().copied().unwrap_or_default();
     let mut file = [0; BEGINNING_LENGTH];
     let given = first_bytes(&mut rt.reader(), &mut file);
     let mut text = [0; ROOM];
