@@ -1,6 +1,6 @@
 -- Laws of reading: the job and the refusal of a file, from its numbers.
 -- Assumes nothing.
-use Rattle.std.specs.Prelude.{Some, None, Result, Ok, Err, MatchResult, IsOkAnd}
+use Rattle.std.specs.Prelude.{Some, None, Result, Ok, Err, MatchResult}
 use Prim.Native.Nat.{ℕ}
 use mathlib.Core.Path.{◌≡◌, ◌∙◌, refl, sym, ap}
 use mathlib.Core.Bool.{true, false}
@@ -48,17 +48,13 @@ module _ (file : List ℕ) where
 
 -- what is read of a file's bytes and examined, and then put into a case of its job
 module _ {A : Type 0} (of : List ℕ → A) (examined : A → Examined) (case : A → FileJob) {answer : Result FileJob Refusal} where
-  cased : (e : Examined) (a : A) → MatchResult (first e (Ok a)) (λ x. IsOkAnd answer (λ y. y ≡ case x)) (λ r. answer ≡ Err r) → answer ≡ first e (Ok (case a))
-  cased (Ok none) a m = is_ok_and answer m
-    where
-      is_ok_and : (r : Result FileJob Refusal) → IsOkAnd r (λ y. y ≡ case a) → r ≡ Ok (case a)
-      is_ok_and (Ok y) e = ap (λ x. Ok x) e
-      is_ok_and (Err r) e = absurd e
+  cased : (e : Examined) (a : A) → MatchResult (first e (Ok a)) (λ x. answer ≡ Ok (case x)) (λ r. answer ≡ Err r) → answer ≡ first e (Ok (case a))
+  cased (Ok none) a m = m
   cased (Err r) a m = m
 
   pub read_cased : (n : ℕ) (file : List ℕ) (found : Result A Refusal)
       → MatchResult (numbers_in n file) (λ ns. (raw : A) × (raw ≡ of ns) × (found ≡ first (examined raw) (Ok raw))) (λ r. found ≡ Err r)
-      → MatchResult found (λ x. IsOkAnd answer (λ y. y ≡ case x)) (λ r. answer ≡ Err r)
+      → MatchResult found (λ x. answer ≡ Ok (case x)) (λ r. answer ≡ Err r)
       → answer ≡ first (first (damage n 0 file) (examined (of (values n file)))) (Ok (case (of (values n file))))
   unfolding numbers_in
   read_cased n file found f m = go (damage n 0 file) f

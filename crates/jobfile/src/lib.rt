@@ -67,9 +67,9 @@ pub fn read(file: &[u8]) -> Result<FileJob, Refusal>
     ensures { result ≡ job_in file.now }
 {
     if marks_support(file) {
-        read_as::<Support, _, SUPPORT_NUMBERS>(file).map(FileJob::Support)
+        Ok(FileJob::Support(read_as::<Support, _, SUPPORT_NUMBERS>(file)?))
     } else {
-        read_as::<Job, _, JOB_NUMBERS>(file).map(FileJob::Scaffold)
+        Ok(FileJob::Scaffold(read_as::<Job, _, JOB_NUMBERS>(file)?))
     }
 }
 
