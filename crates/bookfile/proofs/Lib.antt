@@ -3,6 +3,5 @@ pub mod Steps
 pub mod Filling
 pub mod Pieces
 pub mod Flat
-pub mod Parts
 pub mod Reading
 pub mod Writing

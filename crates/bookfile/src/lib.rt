@@ -32,6 +32,7 @@ fn book_damage(examined: Result<(), Refusal>) -> Result<(), Refusal>
 }
 
 // Reads the rows of a book that begins with a count of n in k bytes.
+#[tactic(auto, using(crate::proofs::Reading::way), unfolding(book::specs::Read::count_in, book::specs::Read::damage_in, groups::specs::Numbers::value_of))]
 fn read_counted(book: &[u8], n: u32, k: usize, rows: &mut [u32]) -> Result<usize, Refusal>
     requires { decode book.now ≡ Some (n, k) }
     ensures returned { result ≡ rows_read book.now rows.old }
@@ -67,6 +68,7 @@ pub fn read(book: &[u8], rows: &mut [u32]) -> Result<usize, Refusal>
 }
 
 // Writes the book of the whole rows at the front of a buffer, which stays as it is where they are refused or it does not fit.
+#[tactic(auto, using(crate::proofs::Writing::way))]
 pub fn write(rows: &[u32], out: &mut [u8]) -> Result<usize, Refusal>
     ensures returned { result ≡ book_written rows.now out.old }
     ensures buffer { out.new ≡ book_left rows.now out.old }

@@ -9,10 +9,9 @@ use Rattle.section5.specs.Formwork.{clause}
 use Rattle.judge.specs.Marked.{examined}
 use Rattle.jobfile.specs.Marked.{files}
 use Rattle.report.specs.Report.{report, lines}
-use Rattle.rembilung.specs.Code.{code_of, written_code}
-use Rattle.rembilung.specs.Call.{refusal_in, report_in, text, sheet_refusal, input_refusal, call_refusal, call_code}
+use Rattle.rembilung.specs.Call.{call_code}
 use Rattle.rembilung.specs.Marked.{rows, returned, sheet_bytes}
 
 pub marked : Hold rows
-unfolding Hold rows returned sheet_bytes paper clause ceil ◌≼◌ up down lines report examined entries files refusal_in report_in text sheet_refusal input_refusal call_refusal call_code code_of written_code
+unfolding Hold rows returned sheet_bytes paper clause ceil ◌≼◌ up down lines report examined entries files call_code
 marked = (refl, (refl, (refl, (refl, (refl, (refl, (refl, (refl, (refl, (refl, (refl, (refl, (refl, (refl, tt))))))))))))))

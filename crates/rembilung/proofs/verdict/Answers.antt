@@ -11,8 +11,8 @@ use Rattle.rembilung.specs.Call.{entries_of, judgement_in}
 use Rattle.rembilung.proofs.Ways.{reported, left}
 use Rattle.rembilung.proofs.verdict.Goals as goal
 
-pub returns-clause-returned : goal.returns-clause-returned
-returns-clause-returned c =
+pub returns : goal.returns
+returns c =
     let E = c.entries_of-entries.result in
     let l : length c.args.sheet.now ≡ 502 = search rules in
     let n : E ≡ entries_of c.args.sheet.now = search rules in
@@ -20,15 +20,8 @@ returns-clause-returned c =
     let s : examination (entries_of c.args.sheet.now) ≡ nothing = ap examination (sym n) ∙ t.0 in
     let same : c.in_ok-sheet.sheet ≡ E = cc (t.1) in
     let g : c.judgement_of.result ≡ judgement_in (entries_of c.args.sheet.now) c.in_ok-job.job = c.judgement_of.ensures ∙ ap (λ x. judgement_in x c.in_ok-job.job) (same ∙ n) in
-    c.write.ensures.returned ∙ ap (λ x. report_written x c.args.report.now) g ∙ reported _ c.args.file.now _ l s (sym c.in_ok-job.ensures)
-
-pub returns-clause-buffer : goal.returns-clause-buffer
-returns-clause-buffer c =
-    let E = c.entries_of-entries.result in
-    let l : length c.args.sheet.now ≡ 502 = search rules in
-    let n : E ≡ entries_of c.args.sheet.now = search rules in
-    let t = first_answers (examination E) (Ok E) (sym c.in_ok-sheet.ensures) in
-    let s : examination (entries_of c.args.sheet.now) ≡ nothing = ap examination (sym n) ∙ t.0 in
-    let same : c.in_ok-sheet.sheet ≡ E = cc (t.1) in
-    let g : c.judgement_of.result ≡ judgement_in (entries_of c.args.sheet.now) c.in_ok-job.job = c.judgement_of.ensures ∙ ap (λ x. judgement_in x c.in_ok-job.job) (same ∙ n) in
-    c.write.ensures.buffer ∙ ap (λ x. report_left x c.args.report.now) g ∙ left _ c.args.file.now _ l s (sym c.in_ok-job.ensures)
+    let w = c.write.ensures in
+    record {
+      returned = w.returned ∙ ap (λ x. report_written x c.args.report.now) g ∙ reported _ c.args.file.now _ l s (sym c.in_ok-job.ensures);
+      buffer = w.buffer ∙ ap (λ x. report_left x c.args.report.now) g ∙ left _ c.args.file.now _ l s (sym c.in_ok-job.ensures);
+    }
