@@ -13,7 +13,8 @@ use Rattle.book.specs.Columns.{turned}
 use Rattle.book.specs.Book.{rows_of}
 use Rattle.book.proofs.Columns.{turned_at, turned_long, below}
 use Rattle.bookfile.specs.Places.{place_of, value_at, PutColumn}
-use Rattle.bookfile.proofs.Numbers.{value_placed, place_add}
+use Rattle.bookfile.proofs.Numbers.{value_placed, place_add, place_none, sound_column}
+use Rattle.bookfile.proofs.Steps.{place_skip}
 
 pub put_none : (c : ℕ) (numbers out : List ℕ) → PutColumn 0 c numbers out out
 put_none c numbers out = record { long = refl; here = λ r h. absurd (omega arith); others = λ k h. refl; rest = refl }
@@ -75,3 +76,6 @@ pub column_numbers : (book : List ℕ) (k n c at : ℕ) → at ≡ place_of book
 column_numbers book k n c at e h i u =
     let m = below n 25 i c u h in
     sym (value_placed book at n i u) ∙ ap (value_at book) (ap (λ (x : ℕ). place_of book x i) e ∙ place_add book k (n * c) i) ∙ value_placed book k (25 * n) (n * c + i) (omega (arith, m))
+
+-- what the loop over the columns is told
+pub ruleset column_by_column = (place_none, sound_column, place_skip, filled_none, filled_next, filled_all, column_numbers)

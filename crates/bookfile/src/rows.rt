@@ -51,6 +51,7 @@ impl Columns<'_> {
 
     // Puts them into as many rows.
     // requires: the reader has compared the rows with those lent, and found no damage.
+    #[tactic(auto, using(crate::proofs::Filling::column_by_column))]
     pub fn put(&self, out: &mut [u32])
         requires { (25 * self.now.count ≤ length out.old) × Sound self.now.book.now self.now.start (25 * self.now.count) }
         ensures { out.new ≡ rows_of self.now.count (values (25 * self.now.count) (drop self.now.start self.now.book.now)) ++ drop (25 * self.now.count) out.old }
