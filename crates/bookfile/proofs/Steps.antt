@@ -1,10 +1,11 @@
 -- Laws of the reader's functions: a step from a number to the next, arrays filled from the front, and rows at 25 places.
 -- Assumes nothing.
 use Rattle.std.specs.Prelude.{Some, None, Err, unwrap_or}
-use Prim.Native.Nat.{ℕ, zero, suc, ◌+◌, ◌-◌, ◌*◌, ◌%◌, ◌≤◌, ◌<◌}
+use Rattle.std.proofs.lemmas.List.{get_or-map}
+use Prim.Native.Nat.{ℕ, suc, ◌+◌, ◌-◌, ◌*◌, ◌%◌, ◌≤◌, ◌<◌}
 use mathlib.Core.Path.{◌≡◌, ◌∙◌, refl, sym, ap}
 use mathlib.Core.Bool.{Bool, true, false, ◌&&◌}
-use mathlib.Core.List.{List, [], ◌∷◌, map, append-nil}
+use mathlib.Core.List.{List, append-nil}
 use native.Mathlib.Nat.{add-zero, mul-zero}
 use native.Mathlib.Numerals.{add-one}
 use native.Mathlib.Omega.{arith}
@@ -145,11 +146,6 @@ starts_last book k n c e h =
 pub starts_within : (book : List ℕ) (k n c : ℕ) {places : List ℕ} → places ≡ front (replicate 25 k) (starts book k n) (c + 1) → c < 25 → k ≤ length book → get_or places c 0 ≤ length book
 starts_within book k n c e h l = rw (starts_last book k n c e h) (place_fits book k (n * c) l)
 
-map_at : (f : ℕ → ℕ) (l : List ℕ) (c : ℕ) → c < length l → get_or (map f l) c 0 ≡ f (get_or l c 0)
-map_at f [] c h = absurd (omega arith)
-map_at f (x ∷ l) zero h = refl
-map_at f (x ∷ l) (suc c) h = map_at f l c (omega arith)
-
 -- the row and the next places, at one of 25 places
 module _ (book places : List ℕ) (e : length places ≡ 25) where
   pub row_long : length (row_at book places) ≡ 25
@@ -162,11 +158,11 @@ module _ (book places : List ℕ) (e : length places ≡ 25) where
 
   pub row_at_lem : (c : ℕ) → c < 25 → get_or (row_at book places) c 0 ≡ (step_at book (get_or places c 0)).value
   unfolding row_at step_at
-  row_at_lem c h = map_at (value_at book) places c (omega (arith, e))
+  row_at_lem c h = get_or-map (value_at book) places c 0 0 (omega (arith, e))
 
   pub moved_at : (c : ℕ) → c < 25 → get_or (moved book places) c 0 ≡ (step_at book (get_or places c 0)).next
   unfolding moved step_at
-  moved_at c h = map_at (next_at book) places c (omega (arith, e))
+  moved_at c h = get_or-map (next_at book) places c 0 0 (omega (arith, e))
 
 -- what the walk from number to number is told
 pub ruleset walked = (number_ends, place_none, place_on, damage_stops, damage_goes, damage_ends)

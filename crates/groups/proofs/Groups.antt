@@ -60,11 +60,8 @@ module _ (v w f : ℕ) {c i n g b : ℕ} {rest bs : List ℕ} (d : i ≡ c) (h :
   resumed_more t l = let k : n ≡ suc f = omega arith in rw (t, e, k, ← h) (sym (one_more v w (c + 1) f g bs l))
 
 -- a group's share of the number fits
-pub share_most : {g w m : ℕ} → g ≤ 127 → w ≤ m → g * w ≤ 127 * m
-share_most = mul-le-mul
-
 pub value_next : (v w g : ℕ) → v < w → v + g % 128 * w < w * 128
-value_next v w g h = let l : g % 128 ≤ 127 = omega arith in omega (arith, share_most l (le_refl w))
+value_next v w g h = let l : g % 128 ≤ 127 = omega arith in omega (arith, mul-le-mul l (le_refl w))
 
 pub weight_next : (c : ℕ) → 128 ^ c * 128 ≡ 128 ^ (c + 1)
 weight_next c = rw add-one (simp unary_clauses)
