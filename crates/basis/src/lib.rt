@@ -6,7 +6,6 @@ ghost use Rattle.basis.specs.Range.{within};
 ghost use Rattle.basis.specs.Refusal.{number as number_of, place as place_of, unless, nothing};
 ghost use Rattle.basis.specs.declared.Refusal.TheVariants.{FieldRange};
 
-
 // Why nothing is answered, with its place: those of document 01, then those of document 02; specs/Refusal.antt says what the place of each is.
 #[derive(Clone, Copy, Debug, PartialEq, Eq)]
 pub enum Refusal {
