@@ -36,6 +36,7 @@ pub fn put_book(rows: &[[u32; ROW]], out: &mut [u8])
     requires { (length rows.now ≤ 200) × (length (book_of_rows rows.now) ≤ length out.old) }
     ensures { out.new ≡ book_of_rows rows.now ++ drop (length (book_of_rows rows.now)) out.old }
 {
+    // By `as`: the library has no From out of usize, nor into it from 32 bits or more.
     let at = write_number(rows.len() as u32, out);
     write_columns(rows, &mut out[at..]);
 }

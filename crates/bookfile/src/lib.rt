@@ -38,6 +38,7 @@ fn read_counted(book: &[u8], n: u32, k: usize, rows: &mut [u32]) -> Result<usize
     ensures returned { result ≡ rows_read book.now rows.old }
     ensures buffer { rows.new ≡ rows_left book.now rows.old }
 {
+    // By `as`, here and below: the library has no From out of usize, nor into it from 32 bits or more.
     let count = n as usize;
     ensure(count <= ROWS_MOST, Refusal::BookCount(count as u64))?;
     let columns = Columns {

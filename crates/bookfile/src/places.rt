@@ -119,6 +119,7 @@ impl Columns<'_> {
         ensures { result ≡ damage self.now.count at (drop at self.now.book.now) }
     {
         let walked = walk(self.book, self.count, at);
+        // By `as`: the library has no From out of usize, nor into it from 32 bits or more.
         let place = walked.map_err(|place| Refusal::Damaged(place as u64))?;
         nothing_after(self.book, place)
     }

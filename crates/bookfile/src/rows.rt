@@ -27,6 +27,7 @@ impl Columns<'_> {
         let mut at = places;
         for row in 0..self.count {
             if !good_row(next_row(self.book, &mut at)) {
+                // By `as`, here and below: the library has no From out of usize, nor into it from 32 bits or more.
                 return Err(Refusal::BookRow(row as u64));
             }
         }

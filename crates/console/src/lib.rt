@@ -41,6 +41,7 @@ fn first_bytes<'a, F: Read>(from: &mut F, out: &'a mut [u8]) -> &'a [u8] {
 // The length of a file of which some bytes are read, counted to its end or to 4,294,967,295.
 fn length_of<F: Read>(from: &mut F, first: usize) -> io::Result<u64> {
     let mut space = [0u8; 4096];
+    // By `as`, here and below: the library has no From out of usize, nor into it from 32 bits or more.
     let mut length = GREATEST_PLACE.min(first as u64);
     // It ends with what is read, or where the length no longer matters.
     while length < GREATEST_PLACE {

@@ -67,6 +67,7 @@ pub fn number_at(file: &[u8], at: usize) -> Option<(u32, usize)>
 pub fn nothing_after(file: &[u8], at: usize) -> Result<(), Refusal>
     ensures { result ≡ extra at (drop at file.now) }
 {
+    // By `as`, here and below: the library has no From out of usize, nor into it from 32 bits or more.
     ensure(file.len() <= at, Refusal::Trailing(at as u64))
 }
 
@@ -122,6 +123,7 @@ pub fn write_number(n: u32, out: &mut [u8]) -> usize
     let mut k = 0;
     // What is left of n ends the loop, not k: a `for` over the buffer would need an answer past its end.
     while 128 <= x {
+        // A byte: what is cut off is 0.
         out[k] = (x % 128 + 128) as u8;
         x /= 128;
         k += 1;

@@ -85,6 +85,7 @@ fn write_examined(
 {
     examined?;
     let needed = numbers_length(numbers);
+    // By `as`: the library has no From out of usize, nor into it from 32 bits or more.
     ensure(needed <= out.len(), Refusal::TooShort(needed as u64))?;
     write_numbers(numbers, out);
     Ok(needed)

@@ -61,6 +61,7 @@ fn writes_back(j: Unexamined, file: &[u8]) -> bool {
     n != 0
         && writes(j, 96, Ok(n), file)
         && writes(j, n, Ok(n), file)
+        // By `as`: the library has no From out of usize, nor into it from 32 bits or more.
         && writes(j, n - 1, Err(refused(Refusal::TooShort(n as u64))), &[])
 }
 

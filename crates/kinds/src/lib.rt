@@ -127,6 +127,7 @@ impl From<Family> for u32 {
     ghost from_gives = { λ kind number. number ≡ family_number kind };
 
     fn from(kind: Family) -> u32 {
+        // By `as`, here and below: nothing else reads the number that an enum's case is given.
         kind as u32
     }
 }

@@ -21,6 +21,7 @@ fn code_of(answer: Result<usize, Refusal>) -> u64
     ensures { result ≡ written_code answer }
 {
     match answer {
+        // By `as`, here and below: the library has no From out of usize, nor into it from 32 bits or more.
         Ok(n) => n as u64,
         Err(refusal) => {
             u64::from(refusal.number()) * 4294967296 + refusal.place().min(4294967295)

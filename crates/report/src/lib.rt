@@ -37,6 +37,7 @@ pub fn write(g: Judgement, out: &mut [u8]) -> Result<usize, Refusal>
     ensures buffer { out.new ≡ report_left g out.old }
 {
     let needed = report_length(g);
+    // By `as`: the library has no From out of usize, nor into it from 32 bits or more.
     ensure(needed <= out.len(), Refusal::TooShort(needed as u64))?;
     let mut text = Text::new(out);
     text.report(g);

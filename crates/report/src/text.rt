@@ -20,6 +20,7 @@ pub(crate) fn digit_count(n: u64) -> usize
     if n < 10 {
         return 1;
     }
+    // By `as`: the library has no From out of usize, nor into it from 32 bits or more.
     n.ilog10() as usize + 1
 }
 
@@ -54,6 +55,7 @@ impl<'a> Text<'a> {
         let mut rest = n;
         while 10 <= rest {
             place -= 1;
+            // A digit: nothing is cut off.
             self.out[place] = b'0' + (rest % 10) as u8;
             rest /= 10;
         }

@@ -70,6 +70,7 @@ pub fn examine(sheet: &[u16]) -> Result<(), Refusal>
     ensures { result ≡ examination sheet.now }
 {
     let Ok(sheet) = <&[u16; 251]>::try_from(sheet) else {
+        // By `as`, here and below: the library has no From out of usize, nor into it from 32 bits or more.
         return Err(Refusal::SheetLength(sheet.len() as u64));
     };
     if is_sound(sheet) {

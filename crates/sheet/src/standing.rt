@@ -55,6 +55,7 @@ impl StandingSheet<'_> {
         let z = z.tenths;
         let above = z.div_ceil(10);
         if z <= 2500 {
+            // By `as`, here and below: the library has no From out of usize, nor into it from 32 bits or more.
             let from = u64::from(self.entries[(z / 10) as usize]);
             let to = u64::from(self.entries[above as usize]);
             return StabilityFactor {

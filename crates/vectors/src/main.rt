@@ -150,6 +150,7 @@ fn job_j() -> Job {
 // Judges a record of sheets.bin, of whose answer only the refusal is expected.
 fn judge_sheet<R: Print>(rt: &R, record: &[u8]) -> io::Result<Outcome> {
     let sheet: [u16; 512] = entries(record, 16);
+    // By `as`: the library has no From out of usize, nor into it from 32 bits or more.
     let Some(sheet) = sheet.get(..word_at(record, 4) as usize) else {
         return Ok(Outcome::Cut);
     };
