@@ -8,7 +8,7 @@ use crate::ROW;
 use basis::Refusal;
 use groups::{nothing_after, number_at};
 
-// A number and the place of the next.
+// A number and the place of the next. A place stays apart from its book: 25 of them move through one book, and a refusal names one.
 #[derive(Clone, Copy, Debug, PartialEq, Eq)]
 pub struct Step {
     pub value: u32,
