@@ -148,17 +148,11 @@ module _ (l : Load) (w : WithinSixteen l) where
 
 -- no column bears more than A f, its stability factor being at most 1
 module _ {c : Column} (s : Proper c) where
-  pub over_most : c.over ≤ 100000
-  over_most = le_trans s.at_most_one s.under_most
-
   pub limit7_most : limit7 c ≤ 100245
   unfolding limit7
   limit7_most =
       le_trans {m = 205 * c.area} (div-le_of_le-mul c.under {m = c.over * (205 * c.area)} (mul-le-mul_right (205 * c.area) s.at_most_one))
       (mul-le-mul_left 205 s.area_most)
-
-  pub room_most : (m : ℕ) → 205 * c.modulus - m ≤ 205 * 5130
-  room_most m = omega (arith, s.modulus_most)
 
   pub limit8_most : (m : ℕ) → limit8 c m ≤ 100245
   unfolding limit8

@@ -4,22 +4,16 @@ use Prim.Native.Nat.{ℕ}
 use mathlib.Core.Path.{◌≡◌, refl, sym, ◌∙◌}
 use mathlib.Core.List.{List}
 use native.Mathlib.Omega.{arith}
-use lib.ListN.{length, length-append}
-use lib.Seq.{take-append_seam}
+use lib.ListN.{length}
 use borrow.Author.Tests.{eq-eqb, ne_eqb}
 use Rattle.std.specs.Prelude.{Ok, Err}
 use Rattle.basis.specs.declared.Refusal.{Refusal}
 use Rattle.basis.specs.declared.Refusal.TheVariants.{SheetLength}
 use Rattle.basis.proofs.Refusals.{first_answers, first_refuses}
-use Rattle.console.specs.Prefix.{IsPrefixLen}
 use Rattle.report.specs.Refused.{written_over}
 use Rattle.rembilung.specs.Call.{text, input_refusal, call_refusal, call_answer, call_buffer}
 use Rattle.rembilung.proofs.Room.{room_for_all}
 use Rattle.console.specs.Printed.{line, printed, printed_from}
-
--- a text at the front of a buffer, with its length
-pub within : (t before : List ℕ) {r : ℕ} {after : List ℕ} → r ≡ length t → after ≡ written_over t before → IsPrefixLen r after
-within t before n w = rw (w, n) (rw length-append (omega arith), rw take-append_seam refl)
 
 module _ (n : ℕ) (sheet file out : List ℕ) where
   -- another length than 502 bytes

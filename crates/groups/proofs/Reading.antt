@@ -4,11 +4,10 @@ use Rattle.std.specs.Prelude.{Some, None, Ok, Err}
 use Prim.Native.Nat.{ℕ, suc, ◌+◌, ◌-◌, ◌≤◌, ◌<◌}
 use mathlib.Core.Path.{◌≡◌, ◌∙◌, refl, sym}
 use mathlib.Core.List.{List, ◌∷◌, ◌++◌, append-nil, append_assoc}
-use native.Mathlib.Nat.{sub-zero}
 use native.Mathlib.Numerals.{add-one}
 use native.Mathlib.Omega.{arith}
 use lib.Dec.{leb}
-use lib.ListN.{length, take, drop, set, replicate, length-set, length-drop, length-replicate, drop_of_length-le}
+use lib.ListN.{length, take, drop, set, replicate, length-set, length-drop, drop_of_length-le}
 use lib.Seq.{drop-cons, drop-drop, take_all, take-suc-set}
 use borrow.Author.Tests.{leb-true, leb-false}
 use Rattle.basis.specs.Refusal.{nothing, unless}
@@ -48,9 +47,6 @@ pub record SoFar (n : ℕ) (file numbers : List ℕ) (i at : ℕ) : Type 0 where
   pub long : length numbers ≡ n
   pub same_damage : damage n 0 file ≡ damage (n - i) at (drop at file)
   pub same_values : values n file ≡ take i numbers ++ values (n - i) (drop at file)
-
-pub so_far_none : (n : ℕ) (file : List ℕ) → SoFar n file (replicate n 0) 0 0
-so_far_none n file = record { within = omega arith; long = length-replicate n 0; same_damage = rw sub-zero; same_values = rw sub-zero }
 
 module _ (n : ℕ) (file numbers : List ℕ) (i at : ℕ) (s : SoFar n file numbers i at) where
   pub so_far_next : (v k : ℕ) → i < n → Some (v, k) ≡ decode (drop at file) → SoFar n file (set numbers i v) (i + 1) (at + k)
