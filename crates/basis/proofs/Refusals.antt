@@ -54,3 +54,14 @@ unless_pass false r rest x e = absurd (cc)
 pub passed : {answer : Examined} {none : Unit {0}} (b : Bool) (r : Refusal) → answer ≡ unless b r nothing → answer ≡ Ok none → T b
 passed true r e f = tt
 passed false r e f = absurd (cc (e, f))
+
+-- a chain goes on where its test passes and ends where it fails, with the test written out
+pub unless_passes : {A : Type 0} (b : Bool) (r : Refusal) (rest : Result A Refusal) → b ≡ true → unless b r rest ≡ rest
+unless_passes b r rest e = rw e refl
+
+pub unless_fails : {A : Type 0} (b : Bool) (r : Refusal) (rest : Result A Refusal) → b ≡ false → unless b r rest ≡ Err r
+unless_fails b r rest e = rw e refl
+
+-- one chain in the place of another whose tests, refusals and rest are equal
+pub unless_link : {A : Type 0} {c rest rest' : Result A Refusal} {r r' : Refusal} {b b' : Bool} → c ≡ unless b r rest → b ≡ b' → r ≡ r' → rest ≡ rest' → c ≡ unless b' r' rest'
+unless_link e f g h = cc
