@@ -12,7 +12,7 @@ use std::{fs, io};
 
 pub mod printed;
 
-// Reads what there is; a read that was interrupted before it began is tried again.
+// Reads what there is; a read that was interrupted before it began is tried again. A loop needs an end, and this one is never reached.
 fn read_some<F: Read>(from: &mut F, out: &mut [u8]) -> io::Result<usize>
     ensures { IfOk result (λ n. n ≤ length out.new) }
 {

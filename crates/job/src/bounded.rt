@@ -10,7 +10,7 @@ use basis::Refusal;
 use kinds::{Boards, Enclosure, Family, Soil, Tube, Wall};
 use std::marker::Model;
 
-// The fields in the order of the job, whose comments say what each is; what the wall is made of is examined and then only written back. A contract sees the job itself.
+// The fields in the order of the job, whose comments say what each is; what the wall is made of is examined and then only written back, so that no code would match on its three makes. A contract sees the job itself.
 #[derive(Clone, Copy)]
 pub struct BoundedJob {
     pub family: Family,

@@ -11,6 +11,7 @@ ghost use Rattle.job.specs.Job.{job_of, numbers};
 ghost use Rattle.job.specs.Examine.{examination};
 
 use basis::{Refusal, ensure, in_range};
+use kinds::{Enclosure, Family};
 
 // A job as it was keyed in, its fields in the order of the paper and of the job file: numbers up to 4,294,967,295, kinds too, since C and files hand them over before any is tried.
 #[derive(Clone, Copy, Debug, PartialEq, Eq)]
@@ -141,9 +142,9 @@ impl From<Job> for [u32; 25] {
 fn lb_stands(family: u32, lb: u32) -> bool
     ensures { result ≡ lb_stands family lb }
 {
-    match family {
-        1 => lb == 105 || lb == 130 || lb == 155,
-        _ => (60..=150).contains(&lb),
+    match Family::from(family) {
+        Family::DoubleRow => lb == 105 || lb == 130 || lb == 155,
+        Family::SingleRow => (60..=150).contains(&lb),
     }
 }
 
@@ -151,9 +152,9 @@ fn lb_stands(family: u32, lb: u32) -> bool
 fn height_stands(family: u32, height: u32) -> bool
     ensures { result ≡ height_stands family height }
 {
-    match family {
-        1 => (1..=5000).contains(&height),
-        _ => (1..=2400).contains(&height),
+    match Family::from(family) {
+        Family::DoubleRow => (1..=5000).contains(&height),
+        Family::SingleRow => (1..=2400).contains(&height),
     }
 }
 
@@ -161,10 +162,10 @@ fn height_stands(family: u32, height: u32) -> bool
 fn shield_stands(enclosure: u32, shield: u32) -> bool
     ensures { result ≡ shield_stands enclosure shield }
 {
-    match enclosure {
-        1 => (1..=2000).contains(&shield),
-        2 => (300..=700).contains(&shield),
-        _ => (1..=1000).contains(&shield),
+    match Enclosure::from(enclosure) {
+        Enclosure::Open => (1..=2000).contains(&shield),
+        Enclosure::HalfClosed => (300..=700).contains(&shield),
+        Enclosure::FullyClosed => (1..=1000).contains(&shield),
     }
 }
 
@@ -236,11 +237,12 @@ impl Job {
     pub fn examine(&self) -> Result<(), Refusal>
         ensures { result ≡ examination self.now }
     {
-        let double = self.family == 1;
+        let double = Family::from(self.family) == Family::DoubleRow;
         self.ranges()?;
         ensure(self.working <= self.boarded, Refusal::Contradiction(10))?;
         ensure(self.q <= self.total, Refusal::Contradiction(12))?;
         ensure(double || 180 < self.thickness, Refusal::UnfitWall(20))?;
+        // Of the three makes no other code asks, so that they are no enum.
         ensure(double || self.make == 1, Refusal::UnfitWall(21))
     }
 }

@@ -50,7 +50,7 @@ fn marks_support(file: &[u8]) -> bool
     }
 }
 
-// The job of a file of N numbers: R has them by name, and stands as S, or is refused.
+// The job of a file of N numbers: R has them by name, and is read as S, or refused.
 // requires: a scaffold has 25, a support 13.
 fn read_as<R: From<[u32; N]>, S: TryFrom<R, Error = Refusal>, const N: usize>(
     file: &[u8],

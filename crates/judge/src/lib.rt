@@ -17,7 +17,7 @@ use job::bounded::BoundedJob;
 use section5::Judgement;
 use sheet::standing::StandingSheet;
 
-// The judgement of a sheet and a job of which nothing is refused.
+// The judgement of a job under a sheet that stands; that nothing is refused of the job is not asked for.
 pub fn judge_accepted(sheet: &StandingSheet<'_>, j: &BoundedJob) -> Judgement
     ensures { result ≡ judgement j.now sheet.now }
 {

@@ -24,6 +24,7 @@ pub(crate) fn digit_count(n: u64) -> usize
     n.ilog10() as usize + 1
 }
 
+// What is asked of each method that writes is the room for what it writes itself, and so one clause for each.
 impl<'a> Text<'a> {
     // A text with nothing in it yet.
     pub(crate) fn new(out: &'a mut [u8]) -> Text<'a>
@@ -44,7 +45,7 @@ impl<'a> Text<'a> {
         self.at = end;
     }
 
-    // A number, its last digit first, and the byte after it. The library's itoa does the same with a table of 200 bytes, which a unit would burn.
+    // A number, its last digit first, and the byte after it. The library's itoa does the same with a table of 200 bytes, which a unit would burn; and what is left of the number ends the loop, not a place.
     #[tactic(auto, using(crate::proofs::Digits::more_length, crate::proofs::Numbers::number_then_length, crate::proofs::Numbers::number_then_stored))]
     pub(crate) fn number(&mut self, n: u64, after: u8)
         requires { Room (number_then n after) self.old }
