@@ -85,7 +85,7 @@ pub fn not_due_of(j: &BoundedJob) -> bool
     ensures { result ≡ not_due j.now }
 {
     match j.enclosure {
-        Enclosure::Open => j.wind <= 350 && face_of(j.ties, j.step, j.la) <= 300000,
+        Enclosure::Open => j.wind <= 350 && face_of(j) <= 300000,
         Enclosure::HalfClosed | Enclosure::FullyClosed => false,
     }
 }

@@ -144,11 +144,10 @@ pub(crate) fn slip_of(j: &BoundedJob) -> u64
 }
 
 // The face that one tie holds, cm².
-pub(crate) fn face_of(ties: u32, step: u32, la: u32) -> u64
-    requires { (ties ≤ 3) × (step ≤ 200) × (la ≤ 200) }
-    ensures { Is result (face ties step la) 360000 }
+pub(crate) fn face_of(j: &BoundedJob) -> u64
+    ensures { Is result (face j.now.ties j.now.step j.now.la) 360000 }
 {
-    u64::from(ties) * u64::from(step) * (3 * u64::from(la))
+    u64::from(j.ties) * u64::from(j.step) * (3 * u64::from(j.la))
 }
 
 // N.
@@ -156,7 +155,7 @@ pub(crate) fn face_of(ties: u32, step: u32, la: u32) -> u64
 pub(crate) fn tie_force(j: &BoundedJob, e: Effects) -> u64
     ensures { Is result (tie_force j.now e.wk) 900000 }
 {
-    let face = face_of(j.ties, j.step, j.la);
+    let face = face_of(j);
     (14 * e.wk * face + 100000 * tie_base(j.family)).div_ceil(100000)
 }
 
