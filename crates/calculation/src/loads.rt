@@ -1,13 +1,11 @@
 // What a pole carries, and its force.
 ghost use Rattle.std.specs.Prelude.{◌≤◌};
 ghost use Rattle.basis.specs.Figure.{Is};
-ghost use Rattle.kinds.specs.Kinds.{family_number};
 ghost use Rattle.calculation.specs.Whole.{deck, fittings, deck_live, deck_load, raised, force, force_wind};
 ghost use Rattle.calculation.specs.Bounded.{Within, IsLoad};
 
 use crate::constants::{board_of, overhang_of, rail_of};
 use job::bounded::BoundedJob;
-use kinds::Family;
 use std::marker::Model;
 
 // Dead and live load, in 1/20,000 N, that of at most sixteen jobs one above the other.
@@ -31,11 +29,10 @@ impl Model for Load {
 }
 
 // The deck's width, cm.
-fn deck_of(family: Family, lb: u32) -> u64
-    requires { lb ≤ 155 }
-    ensures { Is result (deck (family_number family) lb) 185 }
+fn deck_of(j: &BoundedJob) -> u64
+    ensures { Is result (deck j.now.family j.now.lb) 185 }
 {
-    u64::from(lb) + overhang_of(family)
+    u64::from(j.lb) + overhang_of(j.family)
 }
 
 // G2.
@@ -46,7 +43,7 @@ fn fittings_of(j: &BoundedJob) -> u64
     let boarded = u64::from(j.boarded);
     let working = u64::from(j.working);
     let nets = u64::from(j.nets);
-    boarded * board_of(j.boards) * la * deck_of(j.family, j.lb)
+    boarded * board_of(j.boards) * la * deck_of(j)
         + 200 * working * rail_of(j.boards) * la
         + 20000 * nets
 }
@@ -56,7 +53,7 @@ fn fittings_of(j: &BoundedJob) -> u64
 fn deck_live(j: &BoundedJob) -> u64
     ensures { Is result (deck_live j.now) 1110000000 }
 {
-    u64::from(j.total) * u64::from(j.la) * deck_of(j.family, j.lb)
+    u64::from(j.total) * u64::from(j.la) * deck_of(j)
 }
 
 // What a job's pole carries beside the structure.
