@@ -76,7 +76,7 @@ fn check6_of(j: &BoundedJob) -> u8
     ensures { result ≡ verdict (check6 j.now) }
 {
     let step = u64::from(j.step);
-    let length = factor_of(j.family, j.lb, j.ties) * step;
+    let length = factor_of(j) * step;
     verdict_of(length <= slender_limit(j.family) * radius_of(j.tube))
 }
 

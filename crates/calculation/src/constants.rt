@@ -5,6 +5,7 @@ ghost use Rattle.kinds.specs.Kinds.{family_number, tube_number, boards_number, e
 ghost use Rattle.section5.specs.Section5.{factor_at, family_place, spacing_row, tie_column, length_factor};
 ghost use Rattle.calculation.specs.Whole.{area, modulus, radius, stiffness, board, rail, soil_factor, overhang, tie_base, slender_limit, height_limit, shape_unit};
 
+use job::bounded::BoundedJob;
 use kinds::{Boards, Enclosure, Family, Soil, Tube, Wall};
 
 pub(crate) fn area_of(tube: Tube) -> u64
@@ -159,12 +160,12 @@ fn tie_column(ties: u32) -> usize
 }
 
 #[tactic(auto, unfolding(section5::specs::Section5::length_factor))]
-pub(crate) fn factor_of(family: Family, lb: u32, ties: u32) -> u64
-    ensures { Is result (length_factor (family_number family) lb ties) 200 }
+pub(crate) fn factor_of(j: &BoundedJob) -> u64
+    ensures { Is result (length_factor j.now.family j.now.lb j.now.ties) 200 }
 {
     factor_at(
-        family_place(family),
-        spacing_row(family, lb),
-        tie_column(ties),
+        family_place(j.family),
+        spacing_row(j.family, j.lb),
+        tie_column(j.ties),
     )
 }

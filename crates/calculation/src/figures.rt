@@ -64,9 +64,7 @@ pub fn column_slenderness(j: &BoundedJob) -> Slenderness
     ensures { result ≡ column_slenderness j.now }
 {
     let step = u64::from(j.step);
-    let tenths = (1155 * factor_of(j.family, j.lb, j.ties) * step).div_ceil(
-        100 * radius_of(j.tube),
-    );
+    let tenths = (1155 * factor_of(j) * step).div_ceil(100 * radius_of(j.tube));
     rounded_tenths(tenths)
 }
 
@@ -76,7 +74,7 @@ fn slenderness_of(j: &BoundedJob) -> u64
     ensures { result ≡ slenderness j.now }
 {
     let step = u64::from(j.step);
-    (factor_of(j.family, j.lb, j.ties) * step).div_ceil(radius_of(j.tube))
+    (factor_of(j) * step).div_ceil(radius_of(j.tube))
 }
 
 pub(crate) fn transom_moment(j: &BoundedJob) -> u64
