@@ -52,7 +52,7 @@ pub fn column_of(sheet: &StandingSheet<'_>, tube: Tube, z: Slenderness) -> Colum
 pub(crate) fn limit7_of(c: Column) -> u64
     ensures figure { Is result (limit7 c) 100245 }
 
-    // to callers that read no part of it
+    // the invariant, for callers that open no field
     ensures proper { Proper c }
 {
     c.over * (205 * c.area) / c.under

@@ -12,7 +12,7 @@ use section5::CHECKS;
 use sheet::slenderness::Slenderness;
 
 // The shape factor, 1/100,000.
-// requires: judge shows the bound by examining the job.
+// requires: effects_of shows the bound from its job.
 pub fn shape_of(enclosure: Enclosure, wall: Wall, shield: u32) -> u64
     requires { shield ≤ 2000 }
     ensures { Is result (shape (enclosure_number enclosure) (wall_number wall) shield) 312000 }
@@ -21,7 +21,7 @@ pub fn shape_of(enclosure: Enclosure, wall: Wall, shield: u32) -> u64
 }
 
 // wk, N/m², of height factor, shape and basic wind.
-// requires: judge and formwork show the bounds by examining the job.
+// requires: effects_of shows the bounds from its job, formwork from its support.
 #[tactic(auto, using(basis::proofs::Fits::is_most, crate::proofs::Ceil::up, crate::proofs::Most::wind_pressure_most), unfolding(crate::specs::Whole::wind_pressure))]
 pub fn wind_pressure(exposure: u32, shape: u64, wind: u32) -> u64
     requires { (exposure ≤ 4000) × (shape ≤ 312000) × (wind ≤ 2000) }
@@ -33,7 +33,7 @@ pub fn wind_pressure(exposure: u32, shape: u64, wind: u32) -> u64
 }
 
 // Mw, N·mm, of wk, bay and step.
-// requires: judge and formwork show the bounds by examining the job.
+// requires: effects_of shows the bounds from its job, formwork from its support.
 pub fn wind_moment(w: u64, la: u32, step: u32) -> u64
     requires { (w ≤ 17472) × (la ≤ 200) × (step ≤ 200) }
     ensures { Is result (wind_moment w la step) 17000000 }

@@ -51,7 +51,7 @@ impl Pole {
     fn count7(self) -> u64
         ensures count { result ≡ count7 self.column self.load self.weight }
 
-        // to callers that read no part of it
+        // the invariant, for callers that open no field
         ensures sound { (0 < self.weight) × Proper self.column }
     {
         count_up_to(

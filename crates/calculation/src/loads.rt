@@ -67,7 +67,7 @@ pub fn deck_load(j: &BoundedJob) -> Load
 }
 
 // A load with h cm more of a structure of that weight, N/m.
-// requires: judge shows it of an accepted job's load, weight and height.
+// requires: effects_of shows it of its job's load, weight and height.
 pub fn raised_by(l: Load, weight: u32, h: u32) -> Load
     requires { Within l 280000000 1110000000 × (weight ≤ 500) × (h ≤ 6000) }
     ensures { IsLoad result (raised l weight h) 880000000 1110000000 }
