@@ -1,4 +1,4 @@
--- What the code writes from rows of 25: their numbers one after the other, and the bytes of a number and of a column; no promise speaks of this.
+-- What the code writes from rows of 25: their numbers one after the other, and the bytes of a number and of a column; the contracts within the crate speak of this, and no promise to callers.
 -- Assumes nothing.
 use Rattle.std.specs.Prelude.{ℕ, ◌+◌, ◌*◌, List, length, get_or, flat_map}
 use Rattle.groups.specs.Encode.{encode, encode_all}

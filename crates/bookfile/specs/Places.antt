@@ -1,4 +1,4 @@
--- Where the numbers of some bytes stand, and what stands at a place, as the code goes down the rows; no promise speaks of this.
+-- Where the numbers of some bytes stand, and what stands at a place, as the code goes down the rows; the contracts within the crate speak of this, and no promise to callers.
 -- Assumes nothing.
 use Rattle.std.specs.Prelude.{ℕ, zero, suc, ◌+◌, ◌*◌, ◌<◌, Bool, true, ◌&&◌, ◌≡◌, List, map, ltb, length, drop, get_or, None, Result, Ok, Err}
 use Rattle.basis.specs.Refusal.{Examined}

@@ -16,7 +16,7 @@ use Rattle.sheet.proofs.Rows as Sheet
 use Rattle.section5.specs.declared.Heights.TheVariants.{NoLine}
 use Rattle.section5.specs.Section5.{verdict}
 use Rattle.section5.specs.Formwork.{judgement}
-use Rattle.calculation.specs.Parts.{Load, Column}
+use Rattle.calculation.specs.Parts.{Load, Column, Effects}
 use Rattle.calculation.specs.Whole as C
 use Rattle.formwork.specs.Whole as W
 use Rattle.formwork.specs.Answer.{Accepted, answer}
@@ -32,13 +32,13 @@ module _ (sheet : List ℕ) (s : Support) where
   pub accepted_answer : Accepted sheet s → answer sheet s ≡ Ok (judgement s sheet)
   accepted_answer a = ap (λ e. first e (Ok (judgement s sheet))) a
 
-  -- the parts of a judgement, as the code works them out from the support t, which is s, and the slenderness y, which is z
-  pub assembled : {t : Support} {w m z y n nw : ℕ} {c : Column} {load : Load} {v : List ℕ}
-      → t ≡ s → w ≡ W.wk s → m ≡ C.wind_moment w t.bay t.step → y ≡ z → z ≡ W.column_slenderness s → c ≡ C.column_at sheet t.tube z → load ≡ W.load s
-      → n ≡ C.force load → nw ≡ C.force_wind load → v ≡ W.verdicts c s m n nw
-      → record { verdicts = v; figures = 0 ∷ 0 ∷ 0 ∷ 0 ∷ 0 ∷ 0 ∷ n ∷ nw ∷ 0 ∷ n ∷ n ∷ []; heights = NoLine; wk = w; mw = m; z = y } ≡ judgement s sheet
+  -- the parts of a judgement, as the code works them out from the support t, which is s, the slenderness y, which is z, and the effects d, which are e
+  pub assembled : {t : Support} {z y : ℕ} {c : Column} {load : Load} {d e : Effects} {v : List ℕ}
+      → t ≡ s → e.wk ≡ W.wk s → e.mw ≡ C.wind_moment e.wk t.bay t.step → y ≡ z → z ≡ W.column_slenderness s → c ≡ C.column_at sheet t.tube z → load ≡ W.load s
+      → e.n ≡ C.force load → e.nw ≡ C.force_wind load → d ≡ e → v ≡ W.verdicts c s e.mw e.n e.nw
+      → record { verdicts = v; figures = 0 ∷ 0 ∷ 0 ∷ 0 ∷ 0 ∷ 0 ∷ d.n ∷ d.nw ∷ 0 ∷ d.n ∷ d.n ∷ []; heights = NoLine; wk = d.wk; mw = d.mw; z = y } ≡ judgement s sheet
   unfolding W.judgement W.mw W.column_of W.figures
-  assembled et ew em ey ez ec el en enw ev = rw (ev, en, enw, el, ec, ey, ez, em, ew, et) (sym (judgement_same s sheet))
+  assembled et ew em ey ez ec el en enw ei ev = rw (ei, ev, en, enw, el, ec, ey, ez, em, ew, et) (sym (judgement_same s sheet))
 
 module _ (c : Column) (m n nw : ℕ) where
   -- the row, each place by its check, of the support t, which is s

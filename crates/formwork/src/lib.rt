@@ -12,6 +12,7 @@ use basis::Refusal;
 use calculation::checks::{Ground, base_bears, verdict_of};
 use calculation::columns::{Column, bears_of, bends_of, column_of};
 use calculation::constants::radius_of;
+use calculation::effects::Effects;
 use calculation::figures::{rounded_tenths, wind_moment, wind_pressure};
 use calculation::loads::{Load, force_of, force_wind_of};
 use section5::{CHECKS, Heights, Judgement};
@@ -47,13 +48,14 @@ fn slenderness_of(s: &BoundedSupport) -> Slenderness
     rounded_tenths((1000 * length).div_ceil(radius_of(s.tube)))
 }
 
-// The row of eleven, from the column, Mw, N and Nw; 0 where a check does not apply.
+// The row of eleven, from the column and from Mw, N and Nw of the effects; 0 where a check does not apply.
 #[tactic(auto, using(crate::proofs::Ways::rowed))]
-fn verdicts_of(c: Column, s: &BoundedSupport, m: u64, n: u64, nw: u64) -> [u8; CHECKS]
-    ensures { result ≡ verdicts c s.now m n nw }
+fn verdicts_of(c: Column, s: &BoundedSupport, e: Effects) -> [u8; CHECKS]
+    ensures { result ≡ verdicts c s.now e.mw e.n e.nw }
 {
+    let n = e.n;
     let v7 = verdict_of(bears_of(c, n));
-    let v8 = verdict_of(bends_of(c, nw, m));
+    let v8 = verdict_of(bends_of(c, e.nw, e.mw));
     let v10 = verdict_of(base_bears(n));
     let ground = Ground {
         soil: s.soil,
@@ -64,28 +66,35 @@ fn verdicts_of(c: Column, s: &BoundedSupport, m: u64, n: u64, nw: u64) -> [u8; C
     [0, 0, 0, 0, 0, 0, v7, v8, 0, v10, v11]
 }
 
-// The judgement of a sheet and a support of which nothing is refused.
+// The judgement of a support under a sheet that stands; that nothing is refused of the support is not asked for.
 pub fn judge_accepted_support(sheet: &StandingSheet<'_>, s: &BoundedSupport) -> Judgement
     ensures { result ≡ judgement s.now sheet.now }
 {
-    let w = pressure_of(s);
-    let m = wind_moment(w, s.bay, s.step);
+    let wk = pressure_of(s);
+    let mw = wind_moment(wk, s.bay, s.step);
     let z = slenderness_of(s);
     let c = column_of(sheet, s.tube, z);
     let load = load_of(s);
     let n = force_of(load);
     let nw = force_wind_of(load);
+    let e = Effects {
+        wk,
+        mw,
+        n,
+        nw,
+        not_due: false,
+    };
     Judgement {
-        verdicts: verdicts_of(c, s, m, n, nw),
-        figures: [0, 0, 0, 0, 0, 0, n, nw, 0, n, n],
+        verdicts: verdicts_of(c, s, e),
+        figures: [0, 0, 0, 0, 0, 0, e.n, e.nw, 0, e.n, e.n],
         heights: Heights::NoLine,
-        wk: w,
-        mw: m,
+        wk: e.wk,
+        mw: e.mw,
         z: z.tenths,
     }
 }
 
-// Refuses the sheet (1, 2), then the support (3), or judges it.
+// Refuses the sheet (1, 2), then the support (3), or judges it; in a line of its own, as `judge` says.
 pub fn judge_support(sheet: &[u16], s: Support) -> Result<Judgement, Refusal>
     ensures { result ≡ answer sheet.now s }
 {
