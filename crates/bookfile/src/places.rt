@@ -97,14 +97,14 @@ pub struct Columns<'a> {
     pub book: &'a [u8],
     pub start: usize,
     pub count: usize,
-    ghost within: { start ≤ length book.now },
-    ghost few: { count ≤ 200 },
 }
 
 impl Columns<'_> {
     // The places at which they start.
+    // requires: the reader has read the count, which ends within the book.
     #[tactic(auto, using(crate::proofs::Steps::columns_started))]
     pub fn starts(&self) -> [usize; ROW]
+        requires { self.now.start ≤ length self.now.book.now }
         ensures { result ≡ starts self.now.book.now self.now.start self.now.count }
     {
         let mut places = [self.start; ROW];
