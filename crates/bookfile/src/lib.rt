@@ -40,7 +40,7 @@ fn read_counted(book: &[u8], n: u32, k: usize, rows: &mut [u32]) -> Result<usize
 {
     // By `as`, here and below: the library has no From out of usize, nor into it from 32 bits or more.
     let count = n as usize;
-    ensure(count <= ROWS_MOST, Refusal::BookCount(count as u64))?;
+    ensure(count <= ROWS_MOST, Refusal::BookCount(u64::from(n)))?;
     let columns = Columns {
         book,
         start: k,
@@ -48,7 +48,7 @@ fn read_counted(book: &[u8], n: u32, k: usize, rows: &mut [u32]) -> Result<usize
     };
     let places = columns.starts();
     // Where an earlier number is damaged, the last column's place stays at it.
-    book_damage(columns.last_damage(places[24]))?;
+    book_damage(columns.last_damage(places[ROW - 1]))?;
     columns.examine(places)?;
     let room = rows.len() / ROW;
     ensure(count <= room, Refusal::TooShort(count as u64))?;
@@ -62,10 +62,8 @@ pub fn read(book: &[u8], rows: &mut [u32]) -> Result<usize, Refusal>
     ensures returned { result ≡ rows_read book.now rows.old }
     ensures buffer { rows.new ≡ rows_left book.now rows.old }
 {
-    match number_at(book, 0) {
-        Some((n, k)) => read_counted(book, n, k, rows),
-        None => Err(Refusal::BookDamaged(0)),
-    }
+    let (n, k) = number_at(book, 0).ok_or(Refusal::BookDamaged(0))?;
+    read_counted(book, n, k, rows)
 }
 
 // Writes the book of the whole rows at the front of a buffer, which stays as it is where they are refused or it does not fit.
