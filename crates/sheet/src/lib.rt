@@ -10,17 +10,13 @@ ghost use Rattle.sheet.specs.Pass.{falling, sound};
 ghost use Rattle.sheet.specs.Bytes.{entries};
 
 use basis::Refusal;
+use std::array;
 
 // The entries of 502 bytes, each low byte first.
-#[tactic(auto, unfolding(crate::specs::Bytes::entries))]
 pub fn entries_of(bytes: &[u8; 502]) -> [u16; 251]
     ensures { result ≡ entries bytes.now 251 }
 {
-    let mut sheet = [0; 251];
-    for k in 0..251 {
-        sheet[k] = u16::from_le_bytes([bytes[2 * k], bytes[2 * k + 1]]);
-    }
-    sheet
+    array::from_fn(|k| u16::from_le_bytes([bytes[2 * k], bytes[2 * k + 1]]))
 }
 
 // The entry e at place k, after the entry d, stands.
