@@ -19,9 +19,8 @@ pub(crate) fn checks_length(verdicts: [u8; CHECKS], figures: [u64; CHECKS]) -> u
     ensures { Is result (length (check_lines 1 verdicts figures)) (63 * checks) }
 {
     let mut sum = 0;
-    for (i, (verdict, figure)) in verdicts.iter().zip(&figures).enumerate() {
-        // By `as`: the library has no From out of usize, nor into it from 32 bits or more.
-        sum += check_length(i as u64 + 1, u64::from(*verdict), *figure);
+    for (check, (verdict, figure)) in (1..).zip(verdicts.iter().zip(&figures)) {
+        sum += check_length(check, u64::from(*verdict), *figure);
     }
     sum
 }

@@ -21,9 +21,8 @@ impl Text<'_> {
         requires { Room (check_lines 1 verdicts figures) self.old }
         ensures { Put (check_lines 1 verdicts figures) self.old self.new }
     {
-        for (i, (verdict, figure)) in verdicts.iter().zip(&figures).enumerate() {
-            // By `as`: the library has no From out of usize, nor into it from 32 bits or more.
-            self.check(i as u64 + 1, u64::from(*verdict), *figure);
+        for (check, (verdict, figure)) in (1..).zip(verdicts.iter().zip(&figures)) {
+            self.check(check, u64::from(*verdict), *figure);
         }
     }
 

@@ -6,10 +6,10 @@ use Rattle.section5.specs.Section5.{checks}
 use Rattle.report.specs.Report.{check_lines}
 use Rattle.report.proofs.lengths.checks_length.Given as goal
 
-abbrev pub invariant-loop-i : goal.invariant-loop-i
-invariant-loop-i l =
-    (goal.iterator-loop-i).can_next l.i-iterator
-    × (goal.iterator-loop-i).is_finite l.i-iterator
-    × (l.sum + length (check_lines (l.i-iterator.count + 1) l.i-iterator.iter.a.rest.now l.i-iterator.iter.b.rest.now) ≡ length (check_lines 1 l.fn.verdicts l.fn.figures))
-    × (l.sum ≤ 63 * l.i-iterator.count)
-    × (l.i-iterator.count + length l.i-iterator.iter.a.rest.now ≡ checks)
+abbrev pub invariant-loop-check : goal.invariant-loop-check
+invariant-loop-check l =
+    (goal.iterator-loop-check).can_next l.check-iterator
+    × (goal.iterator-loop-check).is_finite l.check-iterator
+    × (l.sum + length (check_lines l.check-iterator.a.start l.check-iterator.b.a.rest.now l.check-iterator.b.b.rest.now) ≡ length (check_lines 1 l.fn.verdicts l.fn.figures))
+    × (l.sum + 63 ≤ 63 * l.check-iterator.a.start)
+    × (l.check-iterator.a.start + length l.check-iterator.b.a.rest.now ≡ checks + 1)
