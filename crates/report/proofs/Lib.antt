@@ -5,6 +5,7 @@ pub mod Numbers
 pub mod Put
 pub mod Refused
 pub mod CheckLines
+pub mod Counted
 pub mod LineLengths
 pub mod Ways
 pub mod Enough

@@ -14,15 +14,13 @@ fn check_length(check: u64, verdict: u64, figure: u64) -> usize
     digit_count(check) + digit_count(verdict) + digit_count(figure) + 3
 }
 
-#[tactic(auto, using(crate::proofs::CheckLines::no_verdict, crate::proofs::CheckLines::no_figure))]
 pub(crate) fn checks_length(verdicts: [u8; CHECKS], figures: [u64; CHECKS]) -> usize
     ensures { Is result (length (check_lines 1 verdicts figures)) (63 * checks) }
 {
-    let mut sum = 0;
-    for (check, (verdict, figure)) in (1..).zip(verdicts.iter().zip(&figures)) {
-        sum += check_length(check, u64::from(*verdict), *figure);
-    }
-    sum
+    (1..)
+        .zip(verdicts.iter().zip(&figures))
+        .map(|(check, (verdict, figure))| check_length(check, u64::from(*verdict), *figure))
+        .sum()
 }
 
 #[tactic(auto, using(crate::proofs::LineLengths::pair_line_length), unfolding(crate::specs::Report::height_line))]
