@@ -13,9 +13,13 @@ room_refusal text out = unless (leb (length text) (length out)) (TooShort (lengt
 abbrev pub written_or : Examined → ℕ → Result ℕ Refusal
 written_or examined n = first examined (Ok n)
 
+-- a buffer with a text written at its front, and every later byte as it was
+abbrev pub written_over : List ℕ → List ℕ → List ℕ
+written_over text out = text ++ drop (length text) out
+
 -- the buffer afterwards
 abbrev pub left_or : {A : Type 0} → Result A Refusal → List ℕ → List ℕ → List ℕ
-left_or (Ok done) text out = text ++ drop (length text) out
+left_or (Ok done) text out = written_over text out
 left_or (Err refusal) text out = out
 
 -- the papers' values for each answer: the length alone, or the refusal's number and its place

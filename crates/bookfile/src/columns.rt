@@ -1,5 +1,6 @@
 // Rows written by column, each number into what is left of the buffer.
-ghost use Rattle.std.specs.Prelude.{◌≡◌, ◌++◌, ◌≤◌, ◌<◌, length, drop};
+ghost use Rattle.std.specs.Prelude.{◌≡◌, ◌≤◌, ◌<◌, length};
+ghost use Rattle.basis.specs.Writing.{written_over};
 ghost use Rattle.bookfile.specs.Pieces.{column_of, columns_of, book_of_rows};
 
 use crate::ROW;
@@ -9,7 +10,7 @@ use groups::write_number;
 fn write_column(rows: &[[u32; ROW]], c: usize, out: &mut [u8]) -> usize
     requires { (c < 25) × (length (column_of rows.now c) ≤ length out.old) }
     ensures returned { result ≡ length (column_of rows.now c) }
-    ensures buffer { out.new ≡ column_of rows.now c ++ drop (length (column_of rows.now c)) out.old }
+    ensures buffer { out.new ≡ written_over (column_of rows.now c) out.old }
 {
     let mut at = 0;
     for row in rows {
@@ -21,7 +22,7 @@ fn write_column(rows: &[[u32; ROW]], c: usize, out: &mut [u8]) -> usize
 // Writes the 25 columns of some rows, each into what is left of the buffer after the one before.
 fn write_columns(rows: &[[u32; ROW]], out: &mut [u8])
     requires { length (columns_of rows.now) ≤ length out.old }
-    ensures { out.new ≡ columns_of rows.now ++ drop (length (columns_of rows.now)) out.old }
+    ensures { out.new ≡ written_over (columns_of rows.now) out.old }
 {
     let mut at = 0;
     for c in 0..ROW {
@@ -34,7 +35,7 @@ fn write_columns(rows: &[[u32; ROW]], out: &mut [u8])
 #[tactic(auto, using(crate::proofs::Pieces::book_length, crate::proofs::Pieces::book_written_lem, crate::proofs::Pieces::kept))]
 pub fn put_book(rows: &[[u32; ROW]], out: &mut [u8])
     requires { (length rows.now ≤ 200) × (length (book_of_rows rows.now) ≤ length out.old) }
-    ensures { out.new ≡ book_of_rows rows.now ++ drop (length (book_of_rows rows.now)) out.old }
+    ensures { out.new ≡ written_over (book_of_rows rows.now) out.old }
 {
     // By `as`: the library has no From out of usize, nor into it from 32 bits or more.
     let at = write_number(rows.len() as u32, out);

@@ -9,8 +9,8 @@ use borrow.Author.Tests.{eq-eqb, ne_eqb}
 use Rattle.std.specs.Prelude.{Ok, Err}
 use Rattle.basis.specs.declared.Refusal.{Refusal}
 use Rattle.basis.specs.declared.Refusal.TheVariants.{SheetLength}
+use Rattle.basis.specs.Writing.{written_over}
 use Rattle.basis.proofs.Refusals.{first_answers, first_refuses}
-use Rattle.report.specs.Refused.{written_over}
 use Rattle.rembilung.specs.Call.{text, input_refusal, call_refusal, call_answer, call_buffer}
 use Rattle.rembilung.proofs.Room.{room_for_all}
 use Rattle.console.specs.Printed.{line, printed, printed_from}

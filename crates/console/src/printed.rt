@@ -1,7 +1,7 @@
 // What the program prints, decided from bytes.
 ghost use Rattle.std.specs.Prelude.{◌≡◌, length};
+ghost use Rattle.basis.specs.Writing.{written_over};
 ghost use Rattle.console.specs.Prefix.{IsPrefixLen};
-ghost use Rattle.report.specs.Refused.{written_over};
 ghost use Rattle.console.specs.Printed.{line, printed_from};
 
 use basis::Refusal;

@@ -1,8 +1,9 @@
 // Numbers in groups of seven bits: one read and written, and several one after the other (refusals 6 and 7).
 #![tactic(auto)]
 
-ghost use Rattle.std.specs.Prelude.{cond, ◌≡◌, ◌≤◌, ◌<◌, ◌^◌, ◌*◌, ◌++◌, leb, length, drop};
+ghost use Rattle.std.specs.Prelude.{cond, ◌≡◌, ◌≤◌, ◌<◌, ◌^◌, ◌*◌, leb, length, drop};
 ghost use Rattle.basis.specs.Figure.{Is};
+ghost use Rattle.basis.specs.Writing.{written_over};
 ghost use Rattle.groups.specs.Encode.{encode, encode_all};
 ghost use Rattle.groups.specs.Decode.{last_group, extend, later_groups, decode};
 ghost use Rattle.groups.specs.LowFirst.{after};
@@ -117,7 +118,7 @@ pub fn numbers_length(numbers: &[u32]) -> usize
 pub fn write_number(n: u32, out: &mut [u8]) -> usize
     requires { length (encode n) ≤ length out.old }
     ensures returned { result ≡ length (encode n) }
-    ensures buffer { out.new ≡ encode n ++ drop (length (encode n)) out.old }
+    ensures buffer { out.new ≡ written_over (encode n) out.old }
 {
     let mut x = n;
     let mut k = 0;
@@ -136,7 +137,7 @@ pub fn write_number(n: u32, out: &mut [u8]) -> usize
 // requires: the callers have compared `numbers_length` with the buffer's length.
 pub fn write_numbers(numbers: &[u32], out: &mut [u8])
     requires { length (encode_all numbers.now) ≤ length out.old }
-    ensures { out.new ≡ encode_all numbers.now ++ drop (length (encode_all numbers.now)) out.old }
+    ensures { out.new ≡ written_over (encode_all numbers.now) out.old }
 {
     let mut at = 0;
     for n in numbers {

@@ -6,9 +6,8 @@ use Prim.Native.Nat.{ℕ, ◌≤◌}
 use native.Mathlib.Omega.{arith}
 use lib.ListN.{length}
 use Rattle.std.specs.Prelude.{Ok}
-use Rattle.basis.specs.Writing.{room_refusal, written_or, left_or}
+use Rattle.basis.specs.Writing.{room_refusal, written_or, written_over, left_or}
 use Rattle.basis.proofs.Writing.{room_nothing}
-use Rattle.report.specs.Refused.{written_over}
 
 pub done : (text out : List ℕ) {n : ℕ} {m : List ℕ} → n ≡ length text → n ≤ length out → m ≡ written_over text out
     → (Ok n ≡ written_or (room_refusal text out) (length text)) × (m ≡ left_or (room_refusal text out) text out)

@@ -1,6 +1,6 @@
 -- Document 01: a refusal is the line "refused", number, place.
 -- Assumes nothing.
-use Rattle.std.specs.Prelude.{ℕ, List, [], ◌∷◌, ◌++◌, length, drop}
+use Rattle.std.specs.Prelude.{ℕ, List, [], ◌∷◌}
 use Rattle.report.specs.Report.{pair_line}
 
 -- "refused "
@@ -9,7 +9,3 @@ refused_word = 114 ∷ 101 ∷ 102 ∷ 117 ∷ 115 ∷ 101 ∷ 100 ∷ 32 ∷ []
 
 abbrev pub refused_line : ℕ → ℕ → List ℕ
 refused_line number place = pair_line refused_word number place
-
--- a buffer with a text written at its front, and every later byte as it was
-abbrev pub written_over : List ℕ → List ℕ → List ℕ
-written_over text out = text ++ drop (length text) out

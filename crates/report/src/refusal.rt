@@ -1,6 +1,7 @@
 // The line of a refusal, at the front of a buffer.
 ghost use Rattle.std.specs.Prelude.{◌≡◌, length};
-ghost use Rattle.report.specs.Refused.{refused_line, written_over};
+ghost use Rattle.basis.specs.Writing.{written_over};
+ghost use Rattle.report.specs.Refused.{refused_line};
 
 use crate::text::Text;
 

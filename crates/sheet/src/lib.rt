@@ -1,4 +1,4 @@
-// The column sheet: its entries from bytes, what about it is refused (refusals 1 and 2), and the stability factor read from it.
+// The column sheet: its entries from bytes, and what about it is refused (refusals 1 and 2).
 #![tactic(auto)]
 
 pub mod slenderness;
