@@ -6,7 +6,7 @@ ghost use Rattle.bookfile.specs.Pieces.{column_of, columns_of, book_of_rows};
 use crate::ROW;
 use groups::write_number;
 
-// Writes column c of some rows at the front of a buffer, and gives its length.
+// Writes column c of some rows at the front of a buffer, and gives its length. It asks for the room of what it writes itself, and so does each below.
 fn write_column(rows: &[[u32; ROW]], c: usize, out: &mut [u8]) -> usize
     requires { (c < 25) × (length (column_of rows.now c) ≤ length out.old) }
     ensures returned { result ≡ length (column_of rows.now c) }

@@ -17,14 +17,14 @@ use kinds::{Enclosure, Soil};
 use section5::CHECKS;
 use std::marker::Model;
 
-// A verdict: 1 passes, 2 fails.
+// A verdict: 1 passes, 2 fails; a number, since the paper requires a row of them.
 pub fn verdict_of(pass: bool) -> u8
     ensures { result ≡ verdict pass }
 {
     if pass { 1 } else { 2 }
 }
 
-// 0 where a check is not due.
+// 0 where a check is not due, as in the paper's row.
 fn due_of(exempt: bool, v: u8) -> u8
     ensures { result ≡ cond exempt 0 v }
 {

@@ -86,7 +86,7 @@ pub fn force_of(l: Load) -> u64
     (12 * l.dead + 14 * l.live).div_ceil(200000)
 }
 
-// Nw.
+// Nw: a formula of its own in document 01, as N is; each is a line, and a contract names each, so that one function of both would say less.
 #[tactic(auto, using(basis::proofs::Fits::is_most, crate::proofs::Ceil::up, crate::proofs::Most::force_wind_most), unfolding(crate::specs::Whole::force_wind))]
 pub fn force_wind_of(l: Load) -> u64
     ensures { Is result (force_wind l) 1543200 }

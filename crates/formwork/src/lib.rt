@@ -48,7 +48,7 @@ fn slenderness_of(s: &BoundedSupport) -> Slenderness
     rounded_tenths((1000 * length).div_ceil(radius_of(s.tube)))
 }
 
-// The row of eleven, from the column and from Mw, N and Nw of the effects; 0 where a check does not apply.
+// The row of eleven, the form that the paper requires, from the column and from Mw, N and Nw of the effects; 0 where a check does not apply.
 #[tactic(auto, using(crate::proofs::Ways::rowed))]
 fn verdicts_of(c: Column, s: &BoundedSupport, e: Effects) -> [u8; CHECKS]
     ensures { result ≡ verdicts c s.now e.mw e.n e.nw }

@@ -51,7 +51,7 @@ pub enum Soil {
     Rock = 5,
 }
 
-// A number is read as the tables of document 01 read it, which ask for the first kinds and give every other number what the last has, but soil 0 what the first has: examining a job refuses a number that no kind has before anything is built on it. Each kind has these conversions by hand: an impl that a macro of its own writes is refused, and a generic one would need each kind's table all the same.
+// A number is read as the tables of document 01 read it, which ask for the first kinds and give every other number what the last has, but soil 0 what the first has: examining a job refuses a number that no kind has before anything is built on it. Each kind has these conversions by hand: an impl that a macro of the repository writes is refused, and a generic one would need each kind's table all the same.
 impl From<u32> for Family {
     ghost from_gives = { λ number kind. kind ≡ family_of number };
 

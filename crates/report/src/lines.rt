@@ -5,6 +5,7 @@ ghost use Rattle.report.specs.Put.{Room, Put};
 use crate::text::Text;
 use section5::{CHECKS, Heights, Judgement};
 
+// Each asks for the room of what it writes itself.
 impl Text<'_> {
     #[tactic(auto, using(crate::proofs::Put::room_first), unfolding(crate::specs::Report::check_line))]
     fn check(&mut self, check: u64, verdict: u64, figure: u64)

@@ -8,7 +8,7 @@ use crate::text::Text;
 // The length of a buffer that has room for the line of any refusal.
 pub const ROOM: usize = 192;
 
-// Writes the line of a refusal at the front of a buffer, and gives its length. It takes any two numbers, as a `Refusal` would not allow; a `Display` would print, and write to no buffer that is lent.
+// Writes the line of a refusal at the front of a buffer, and gives its length. It takes any two numbers, as a `Refusal` would not allow; and each byte of a lent buffer is promised, which the library's contracts say of a `Display` only for a `String`.
 pub fn write_refused(number: u64, place: u64, out: &mut [u8; ROOM]) -> usize
     ensures returned { result ≡ length (refused_line number place) }
     ensures buffer { out.new ≡ written_over (refused_line number place) out.old }

@@ -9,7 +9,7 @@ ghost use Rattle.support.specs.Examine.{examination};
 
 use basis::{Refusal, in_range};
 
-// A support as it was keyed in, its fields in the order of the paper and of the job file: numbers, kinds too, before any is tried.
+// A support as it was keyed in, its fields in the order of the paper and of the job file: numbers, kinds too, since C and files hand them over before any is tried.
 #[derive(Clone, Copy, Debug, PartialEq, Eq)]
 pub struct Support {
     // 3, which marks a support
