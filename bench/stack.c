@@ -88,13 +88,16 @@ static void measure_random(void (*any)(uint32_t *numbers), const char *where) {
     }
 }
 
-static void measure_book(const BookInput *in, const char *where) {
-    static uint32_t rows[REMBILUNG_NUMBERS * ROWS_MOST];
+static void measure_writing(const BookInput *in, const char *where) {
     static uint8_t book[BOOK_ROOM];
-    const uint64_t write[6] = {(uintptr_t)in->rows, in->numbers, (uintptr_t)book, in->book_len};
-    const uint64_t read[6] = {(uintptr_t)in->book, in->book_len, (uintptr_t)rows, in->numbers};
-    keep(WRITE_BOOK, depth_of((const void *)(uintptr_t)rembilung_write_book, write), where);
-    keep(READ_BOOK, depth_of((const void *)(uintptr_t)rembilung_read_book, read), where);
+    const uint64_t arguments[6] = {(uintptr_t)in->rows, in->numbers, (uintptr_t)book, in->book_len};
+    keep(WRITE_BOOK, depth_of((const void *)(uintptr_t)rembilung_write_book, arguments), where);
+}
+
+static void measure_reading(const BookInput *in, const char *where) {
+    static uint32_t rows[REMBILUNG_NUMBERS * ROWS_MOST];
+    const uint64_t arguments[6] = {(uintptr_t)in->book, in->book_len, (uintptr_t)rows, in->numbers};
+    keep(READ_BOOK, depth_of((const void *)(uintptr_t)rembilung_read_book, arguments), where);
 }
 
 static void random_rows(uint32_t *rows, size_t count) {
@@ -112,7 +115,9 @@ static void measure_random_book(void) {
         rows[from_to(0, (uint32_t)numbers - 1)] = from_to(100001, 4000000000u);
     size_t length = pack_book(rows, count, book);
     length = from_to(0, 3) == 0 ? from_to(0, (uint32_t)length) : length;
-    measure_book(&(BookInput){rows, numbers, book, length}, "random and limit books");
+    const BookInput in = {rows, numbers, book, length};
+    measure_writing(&in, "random and limit books");
+    measure_reading(&in, "random and limit books");
 }
 
 static void measure_inputs(void) {
@@ -120,9 +125,11 @@ static void measure_inputs(void) {
         measure(&inputs[k / PER_CLASS][k % PER_CLASS], k % PER_CLASS % (REMBILUNG_FILE_MOST + 1), classes[k / PER_CLASS].name);
 }
 
+/* A class is named after the call that it is for, and goes to that one alone. */
 static void measure_books(int class) {
+    void (*measure_one)(const BookInput *, const char *) = book_classes[class].writes ? measure_writing : measure_reading;
     for (int k = 0; k < book_classes[class].count; k++)
-        measure_book(&books[class][k], book_classes[class].name);
+        measure_one(&books[class][k], book_classes[class].name);
 }
 
 static void measure_all_books(void) {
