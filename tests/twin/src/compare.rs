@@ -66,16 +66,16 @@ pub fn library(call: &Call) -> Answer {
 }
 
 /// The six calls of one side.
-struct Side {
-    verdict: fn(&[u8], &[u8], &mut [u8]) -> u64,
-    write_job: fn(&[u32; 25], &mut [u8]) -> u64,
-    write_support: fn(&[u32; 13], &mut [u8]) -> u64,
-    read_job: fn(&[u8], &mut [u32; 25]) -> u64,
-    write_book: fn(&[u32], &mut [u8]) -> u64,
-    read_book: fn(&[u8], &mut [u32]) -> u64,
+pub struct Side {
+    pub verdict: fn(&[u8], &[u8], &mut [u8]) -> u64,
+    pub write_job: fn(&[u32; 25], &mut [u8]) -> u64,
+    pub write_support: fn(&[u32; 13], &mut [u8]) -> u64,
+    pub read_job: fn(&[u8], &mut [u32; 25]) -> u64,
+    pub write_book: fn(&[u32], &mut [u8]) -> u64,
+    pub read_book: fn(&[u8], &mut [u32]) -> u64,
 }
 
-const TWIN: Side = Side {
+pub const TWIN: Side = Side {
     verdict: calls::verdict,
     write_job: calls::write_job,
     write_support: calls::write_support,
@@ -85,7 +85,7 @@ const TWIN: Side = Side {
 };
 
 // A slice's pointer is never null and its length is that of one lent buffer, as the header asks.
-const LIBRARY: Side = Side {
+pub const LIBRARY: Side = Side {
     verdict: library_verdict,
     write_job: |numbers, lent| unsafe { rembilung_write_job(numbers.as_ptr(), lent.as_mut_ptr(), lent.len()) },
     write_support: |numbers, lent| unsafe { rembilung_write_support(numbers.as_ptr(), lent.as_mut_ptr(), lent.len()) },

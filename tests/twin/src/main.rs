@@ -5,6 +5,7 @@ mod call;
 mod compare;
 mod coverage;
 mod demand3;
+mod hand_books;
 mod inputs;
 mod marked;
 mod marked_books;

@@ -63,6 +63,22 @@ pub fn damaged_count_cell(way: usize, short: u64) -> Cell {
     cell("damaged count", [way as u32, short as u32, 0, 0])
 }
 
+/// A count above 200 with a last group of zero added: damaged, though its value is plain to see.
+pub fn high_count_damaged(random: &mut Random, _: &Lists, turn: u64) -> Turn {
+    let count = COUNTS[6 + turn as usize % 6];
+    let rows = some_rows(random);
+    let mut book = files::of(&[count]);
+    let last = book.len() - 1;
+    book[last] |= 0x80;
+    book.push(0);
+    book.extend(files::of(&in_columns(&accepted(random, rows))[1..]));
+    single(read(random, book, rows), vec![(high_count_damaged_cell(count), Expect::Refusal(9, 0))])
+}
+
+pub fn high_count_damaged_cell(count: u32) -> Cell {
+    cell("count above 200 in a longer form", [count, 0, 0, 0])
+}
+
 /// As many turns as there are numbers and ways to damage them in books of one row and of two.
 pub const DAMAGES: u64 = 375;
 
@@ -121,10 +137,14 @@ pub fn lengthened_cell(rows: usize) -> Cell {
     cell("lengthened book", [rows as u32, 0, 0, 0])
 }
 
-/// A few bytes, zeros half of the time: a reader may pass over zeros alone.
+/// A few bytes, often zeros or one line end: a reader may pass over those alone.
 fn extra_bytes(random: &mut Random, most: usize) -> Vec<u8> {
     let length = 1 + random.below(most);
-    if random.once_in(2) { vec![0; length] } else { random.bytes(length) }
+    match random.below(4) {
+        0 => vec![0x0A],
+        1 => random.bytes(length),
+        _ => vec![0; length],
+    }
 }
 
 /// Two damaged places: the lower number not cut off, the other in any way, or bytes after the last number.
@@ -145,6 +165,27 @@ pub fn two_places(random: &mut Random, _: &Lists, turn: u64) -> Turn {
 
 pub fn two_places_cell(way: usize, other: usize) -> Cell {
     cell("book damaged in two places", [way as u32, other as u32, 0, 0])
+}
+
+/// The bytes of a damaged number: 0 in a longer form, one above 32 bits, one of six bytes.
+const DAMAGED_NUMBERS: [&[u8]; 3] = [&[0x80, 0], &[0x80, 0x80, 0x80, 0x80, 0x10], &[0x81, 0x80, 0x80, 0x80, 0x80, 0]];
+
+/// As many turns as there are such numbers and columns with another behind them.
+pub const SAME_DAMAGES: u64 = 72;
+
+/// The same damage in row 1 of a column and in row 0 of the next: the later row's stands first in the book.
+pub fn same_damage(random: &mut Random, _: &Lists, turn: u64) -> Turn {
+    let (way, column) = (turn as usize % 3, turn as usize / 3 % 24);
+    let numbers = in_columns(&accepted(random, 2));
+    let before = files::of(&numbers[..2 * column + 2]);
+    let offset = before.len() as u64;
+    let behind = files::of(&numbers[2 * column + 4..]);
+    let book = [&before, DAMAGED_NUMBERS[way], DAMAGED_NUMBERS[way], &behind].concat();
+    single(read(random, book, 2), vec![(same_damage_cell(way, column), Expect::Refusal(9, offset))])
+}
+
+pub fn same_damage_cell(way: usize, column: usize) -> Cell {
+    cell("same damage in two columns", [way as u32, column as u32, 0, 0])
 }
 
 // The faults of reading a book, one bit each.

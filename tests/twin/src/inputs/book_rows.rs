@@ -1,11 +1,12 @@
 //! The turns on books that are refused for a row: every field, contradictions, walls, supports, and several such rows.
 
-use super::books::{accepted, expected, through};
+use super::books::{accepted, expected, through, whole};
 use super::damage::end_cell;
 use super::jobs::{self, any_accepted};
 use super::kinds::single;
 use super::{Lists, Turn, ends, supports};
-use crate::coverage::{Cell, cell};
+use crate::call::Call;
+use crate::coverage::{Cell, Expect, cell};
 use crate::paper::job::{Job, range};
 use crate::random::Random;
 
@@ -81,8 +82,43 @@ pub fn far_cell(row: usize, reads: bool) -> Cell {
     cell("bad row far down", [row as u32, u32::from(reads), 0, 0])
 }
 
+/// As many turns as there are bad rows and rooms, of which each is too short for four rows.
+pub const BAD_IN_SHORT: u64 = 16;
+
+/// A bad row that fits into the room, or stands beyond it: it goes before the room either way.
+pub fn bad_in_short(random: &mut Random, _: &Lists, turn: u64) -> Turn {
+    let (row, room, fault) = (turn as usize % 4, turn as usize / 4 % 4, random.below(FAULTS));
+    let mut rows = accepted(random, 4);
+    rows[row] = bad_row(random, fault);
+    let numbers = room * 25 + random.below(25);
+    let call = Call::ReadBook { book: whole(&rows), numbers, fill: random.next() };
+    single(call, vec![(bad_in_short_cell(row, room), Expect::Refusal(11, row as u64))])
+}
+
+pub fn bad_in_short_cell(row: usize, room: usize) -> Cell {
+    cell("bad row and short room", [row as u32, room as u32, 0, 0])
+}
+
 /// The pairs among four rows.
 pub const PAIRS: [(usize, usize); 6] = [(0, 1), (0, 2), (0, 3), (1, 2), (1, 3), (2, 3)];
+
+/// The pairs, and all four rows.
+pub const ALIKE: usize = 7;
+
+/// Rows that are alike number by number, two of four or all: nothing is wrong with that.
+pub fn alike(random: &mut Random, _: &Lists, turn: u64) -> Turn {
+    let (which, reads) = (turn as usize % ALIKE, turn as usize / ALIKE % 2 == 1);
+    let mut rows = accepted(random, 4);
+    match PAIRS.get(which) {
+        Some(&(row, later)) => rows[later] = rows[row],
+        None => rows = vec![rows[0]; 4],
+    }
+    row_turn(random, &rows, reads, alike_cell(which, reads))
+}
+
+pub fn alike_cell(which: usize, reads: bool) -> Cell {
+    cell("rows alike", [which as u32, u32::from(reads), 0, 0])
+}
 
 /// Two bad rows; what is wrong with the later one stands in earlier columns, or is tried first.
 pub fn two_bad(random: &mut Random, _: &Lists, turn: u64) -> Turn {

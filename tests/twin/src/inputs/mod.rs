@@ -82,7 +82,7 @@ struct Kind {
     calls: usize,
 }
 
-const KINDS: [Kind; 61] = [
+const KINDS: [Kind; 65] = [
     Kind { make: kinds::uniform, turns: 140, calls: 1 },
     Kind { make: damage::wild, turns: 24, calls: 1 },
     Kind { make: damage::end, turns: 90, calls: 1 },
@@ -133,14 +133,18 @@ const KINDS: [Kind; 61] = [
     Kind { make: book_kinds::room, turns: 5, calls: 1 },
     Kind { make: book_damage::count, turns: 2, calls: 1 },
     Kind { make: book_damage::damaged_count, turns: 1, calls: 1 },
+    Kind { make: book_damage::high_count_damaged, turns: 1, calls: 1 },
     Kind { make: book_damage::broken_number, turns: 7, calls: 1 },
     Kind { make: book_damage::cut, turns: 2, calls: 1 },
     Kind { make: book_damage::two_places, turns: 1, calls: 1 },
+    Kind { make: book_damage::same_damage, turns: 2, calls: 1 },
     Kind { make: book_damage::faults, turns: 2, calls: 1 },
     Kind { make: book_damage::writing_faults, turns: 1, calls: 1 },
     Kind { make: book_damage::shaken, turns: 4, calls: 1 },
     Kind { make: book_rows::one_bad, turns: 3, calls: 1 },
     Kind { make: book_rows::far_down, turns: 1, calls: 1 },
+    Kind { make: book_rows::bad_in_short, turns: 1, calls: 1 },
+    Kind { make: book_rows::alike, turns: 1, calls: 1 },
     Kind { make: book_rows::two_bad, turns: 1, calls: 1 },
     Kind { make: book_rows::end, turns: 12, calls: 1 },
     Kind { make: book_rows::wild, turns: 3, calls: 1 },

@@ -208,6 +208,8 @@ fn books() -> Vec<Cell> {
 fn damaged_books() -> Vec<Cell> {
     let mut cells: Vec<Cell> = (0..3).flat_map(|follows| COUNTS.map(|count| count_cell(count, follows))).collect();
     cells.extend((0..10).map(|number| damaged_count_cell(number % 5, number as u64 / 5)));
+    cells.extend(COUNTS[6..].iter().map(|&count| high_count_damaged_cell(count)));
+    cells.extend((0..SAME_DAMAGES as usize).map(|number| same_damage_cell(number % 3, number / 3)));
     cells.extend((0..DAMAGES).map(damage).map(|(rows, number, way)| damage_cell(rows, number, way)));
     cells.extend((0..CUTS).map(cut_cell));
     cells.extend((0..LENGTHENED).map(lengthened_cell));
@@ -221,9 +223,11 @@ fn damaged_books() -> Vec<Cell> {
 
 fn bad_rows(lists: &Lists) -> Vec<Cell> {
     let mut cells: Vec<Cell> = (0..BAD_ROWS).map(|turn| bad_row_cell(bad_row_key(turn))).collect();
+    cells.extend((0..BAD_IN_SHORT as usize).map(|turn| bad_in_short_cell(turn % 4, turn / 4)));
     for reads in [false, true] {
         cells.extend(FAR.map(|row| far_cell(row, reads)));
         cells.extend(PAIRS.map(|rows| two_bad_cell(rows, reads)));
+        cells.extend((0..ALIKE).map(|which| alike_cell(which, reads)));
     }
     for kind in KINDS {
         cells.extend(end_cells(lists, kind));

@@ -50,19 +50,14 @@ pub fn read_job(file: &[u8], lent: &mut [u32; 25]) -> u64 {
     }))
 }
 
-/// Writes a book of the whole rows that are lent; what stands after the last of them is not read.
+/// Writes the whole rows of what is lent, 25 numbers each, as a book; what stands after the last one is not read.
 pub fn write_book(numbers: &[u32], lent: &mut [u8]) -> u64 {
-    let (rows, _) = numbers.as_chunks();
+    let (rows, _after) = numbers.as_chunks::<25>();
     one_number(book::write(rows, lent))
 }
 
-/// Reads a book into the whole rows that are lent; what stands after those of the book stays as it was.
+/// Reads a book into the whole rows of what is lent; what stands after the rows that are read is not touched.
 pub fn read_book(book: &[u8], lent: &mut [u32]) -> u64 {
-    let (rows, _) = lent.as_chunks_mut();
-    one_number(book::read(book, rows.len()).map(|jobs| {
-        for (row, job) in rows.iter_mut().zip(&jobs) {
-            *row = job.0;
-        }
-        jobs.len()
-    }))
+    let (rows, _after) = lent.as_chunks_mut::<25>();
+    one_number(book::read(book, rows))
 }
