@@ -45,7 +45,7 @@ fn lowest_row(cases: &mut Cases) {
     both(cases, "3 in row 1 of 3", &[J, PAD, K], &[J_GROUPS, PAD_GROUPS, K_GROUPS], 1);
     both(cases, "5 in row 2 of 3", &[J, K, THIN], &[J_GROUPS, K_GROUPS, THIN_GROUPS], 2);
 
-    // Two bad rows. The columns show row 1's FAMILY, out of range, as the second number of the book; row 0's pad is the
+    // Two bad rows. The columns show row 1's family, out of range, as the second number of the book; row 0's pad is the
     // last but one. The row named is the lowest, 0.
     both(cases, "row 0 at 25, row 1 at 1", &[PAD, FAMILY], &[PAD_GROUPS, FAMILY_GROUPS], 0);
     // Row 1 by 5, which no single column shows; row 2 by 3 in column 1: 1.
@@ -67,7 +67,7 @@ fn lowest_row(cases: &mut Cases) {
 
 /// Rows that are no scaffold's by their first number, and a support's numbers.
 fn no_scaffold(cases: &mut Cases) {
-    // A row that begins with 3 is a bad row: J's other numbers, as row 0 and as row 1; and 4, and 0.
+    // A row that begins with 3 is a bad row: J's other numbers, as row 0 and as row 1; and 4 (0 is among the rows alone).
     both(cases, "begins with 3", &[THREE], &[THREE_GROUPS], 0);
     both(cases, "row 1 begins with 3", &[J, THREE], &[J_GROUPS, THREE_GROUPS], 1);
     both(cases, "begins with 4", &[with(J, 1, 4)], &[groups_with(J_GROUPS, 1, &[0x04])], 0);

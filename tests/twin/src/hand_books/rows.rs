@@ -1,8 +1,9 @@
 //! Rows, and each number's groups beside them with how they come about; books are put together of groups alone.
 
+use crate::marked;
+
 /// Job J of document 01: double row, open. 38 bytes: 12 numbers of one byte, 13 of two.
-pub const J: [u32; 25] =
-    [1, 1, 105, 150, 180, 2, 3000, 3, 4, 2, 3000, 5000, 0, 300, 300, 1000, 1, 200, 1, 240, 1, 8000, 4, 200, 2000];
+pub const J: [u32; 25] = marked::J.0;
 pub const J_GROUPS: [&[u8]; 25] = [
     &[0x01],       //  1: 1
     &[0x01],       //  2: 1

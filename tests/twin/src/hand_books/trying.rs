@@ -2,6 +2,7 @@
 
 use crate::compare::Side;
 use crate::marked::{self, case};
+use std::fmt::Debug;
 
 /// Refusal × 4,294,967,296 + place.
 pub fn refusal(number: u64, place: u64) -> u64 {
@@ -43,17 +44,22 @@ impl<'a> Cases<'a> {
         (self.side.read_book)(book, lent)
     }
 
+    /// The result, and everything lent, beside what they have to be.
+    fn compared<T: PartialEq + Debug>(&mut self, name: &str, [got, want]: [u64; 2], lent: &[T], left: &[T]) {
+        let fault = if got != want {
+            Some(format!("{} at {}, not {} at {}", got >> 32, got as u32, want >> 32, want as u32))
+        } else {
+            (0..lent.len()).find(|&at| lent[at] != left[at]).map(|at| format!("lent number {at} is {:?}", lent[at]))
+        };
+        self.tried(name, fault);
+    }
+
     /// Reads into `lent` numbers; the result has to be `want`, and the lent numbers `rows` and then what they were.
     pub fn reads(&mut self, name: &str, book: &[u8], lent: usize, want: u64, rows: &[[u32; 25]]) {
         let (mut numbers, mut left) = (before_numbers(lent), before_numbers(lent));
         let got = self.read_book(book, &mut numbers);
         left[..25 * rows.len()].copy_from_slice(rows.as_flattened());
-        let fault = if got != want {
-            Some(format!("read {} at {}, not {} at {}", got >> 32, got as u32, want >> 32, want as u32))
-        } else {
-            (0..lent).find(|&at| numbers[at] != left[at]).map(|at| format!("number {at} lent is {}", numbers[at]))
-        };
-        self.tried(name, fault);
+        self.compared(name, [got, want], &numbers, &left);
     }
 
     /// A refusal in reading leaves all numbers, whatever room is lent.
@@ -66,12 +72,7 @@ impl<'a> Cases<'a> {
         let (mut bytes, mut left) = (before_bytes(lent), before_bytes(lent));
         let got = self.write_book(numbers, &mut bytes);
         left[..book.len()].copy_from_slice(book);
-        let fault = if got != want {
-            Some(format!("wrote {} at {}, not {} at {}", got >> 32, got as u32, want >> 32, want as u32))
-        } else {
-            (0..lent).find(|&at| bytes[at] != left[at]).map(|at| format!("byte {at} lent is {:02X}", bytes[at]))
-        };
-        self.tried(name, fault);
+        self.compared(name, [got, want], &bytes, &left);
     }
 
     /// A refusal in writing leaves all bytes, whatever room is lent.
