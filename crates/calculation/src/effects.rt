@@ -4,7 +4,7 @@ ghost use Rattle.calculation.specs.Whole.{effects};
 
 use crate::checks::not_due_of;
 use crate::figures::{shape_of, wind_moment, wind_pressure};
-use crate::loads::{deck_load, force_of, force_wind_of, raised_by};
+use crate::forces::{pole_force, pole_force_wind};
 use job::bounded::BoundedJob;
 use std::marker::Model;
 
@@ -37,12 +37,11 @@ pub fn effects_of(j: &BoundedJob) -> Effects
 {
     let shape = shape_of(j.enclosure, j.wall, j.shield);
     let wk = wind_pressure(j.exposure, shape, j.wind);
-    let load = raised_by(deck_load(j), j.weight, j.height);
     Effects {
         wk,
         mw: wind_moment(wk, j.la, j.step),
-        n: force_of(load),
-        nw: force_wind_of(load),
+        n: pole_force(j),
+        nw: pole_force_wind(j),
         not_due: not_due_of(j),
     }
 }

@@ -6,5 +6,6 @@ pub mod columns;
 pub mod constants;
 pub mod effects;
 pub mod figures;
+pub(crate) mod forces;
 pub mod heights;
 pub mod loads;

@@ -1,8 +1,10 @@
 // What a pole carries, and its force.
 ghost use Rattle.std.specs.Prelude.{◌≤◌};
+ghost use Rattle.basis.specs.Fraction.{Equals};
 ghost use Rattle.basis.specs.Figure.{Is};
-ghost use Rattle.calculation.specs.Whole.{deck, fittings, deck_live, deck_load, raised, force, force_wind};
-ghost use Rattle.calculation.specs.Bounded.{Within, IsLoad};
+ghost use Rattle.section5.specs.Section5.{G1};
+ghost use Rattle.calculation.specs.Whole.{deck, fittings, deck_live, deck_load, force, force_wind};
+ghost use Rattle.calculation.specs.Bounded.{IsLoad};
 
 use crate::constants::{board_of, overhang_of, rail_of};
 use job::bounded::BoundedJob;
@@ -35,8 +37,18 @@ fn deck_of(j: &BoundedJob) -> u64
     u64::from(j.lb) + overhang_of(j.family)
 }
 
+// G1, in 1/20,000 N.
+pub(crate) fn structure_of(j: &BoundedJob) -> u64
+    ensures figure { Equals (G1 j.now j.now.height) result 20000 }
+    ensures most { result ≤ 500000000 }
+{
+    let weight = u64::from(j.weight);
+    let height = u64::from(j.height);
+    200 * weight * height
+}
+
 // G2.
-fn fittings_of(j: &BoundedJob) -> u64
+pub(crate) fn fittings_of(j: &BoundedJob) -> u64
     ensures { Is result (fittings j.now) 280000000 }
 {
     let la = u64::from(j.la);
@@ -50,7 +62,7 @@ fn fittings_of(j: &BoundedJob) -> u64
 
 // L.
 #[tactic(auto, using(basis::proofs::Fits::is_most, crate::proofs::Most::deck_live_most), unfolding(crate::specs::Whole::deck_live))]
-fn deck_live(j: &BoundedJob) -> u64
+pub(crate) fn deck_live(j: &BoundedJob) -> u64
     ensures { Is result (deck_live j.now) 1110000000 }
 {
     u64::from(j.total) * u64::from(j.la) * deck_of(j)
@@ -66,19 +78,7 @@ pub fn deck_load(j: &BoundedJob) -> Load
     }
 }
 
-// A load with h cm more of a structure of that weight, N/m.
-// requires: effects_of shows it of its job's load, weight and height.
-pub fn raised_by(l: Load, weight: u32, h: u32) -> Load
-    requires { Within l 280000000 1110000000 × (weight ≤ 500) × (h ≤ 6000) }
-    ensures { IsLoad result (raised l weight h) 880000000 1110000000 }
-{
-    Load {
-        dead: 200 * u64::from(weight) * u64::from(h) + l.dead,
-        live: l.live,
-    }
-}
-
-// N.
+// N of a load that is known whole, as a support's is (5.6.2-1).
 #[tactic(auto, using(basis::proofs::Fits::is_most, crate::proofs::Ceil::up, crate::proofs::Most::force_most), unfolding(crate::specs::Whole::force))]
 pub fn force_of(l: Load) -> u64
     ensures { Is result (force l) 1543200 }
@@ -86,7 +86,7 @@ pub fn force_of(l: Load) -> u64
     (12 * l.dead + 14 * l.live).div_ceil(200000)
 }
 
-// Nw: a formula of its own in document 01, as N is; each is a line, and a contract names each, so that one function of both would say less.
+// Nw of it (5.6.2-2): a formula of its own, as N is; each is a line, and a contract names each, so that one function of both would say less.
 #[tactic(auto, using(basis::proofs::Fits::is_most, crate::proofs::Ceil::up, crate::proofs::Most::force_wind_most), unfolding(crate::specs::Whole::force_wind))]
 pub fn force_wind_of(l: Load) -> u64
     ensures { Is result (force_wind l) 1543200 }

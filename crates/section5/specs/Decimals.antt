@@ -1,4 +1,4 @@
--- The decimals of document 01, as exact fractions.
+-- The decimals of document 01 and of clause 5.3.2, as exact fractions.
 -- Assumes nothing.
 use Rattle.basis.specs.Fraction.{Ratio, tenths, hundredths, thousandths}
 
@@ -16,6 +16,9 @@ abbrev pub 0·30 : Ratio
 
 abbrev pub 0·7 : Ratio
 0·7 = tenths 7
+
+abbrev pub 0·85 : Ratio
+0·85 = hundredths 85
 
 abbrev pub 1·0 : Ratio
 1·0 = tenths 10

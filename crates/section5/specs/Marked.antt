@@ -9,7 +9,8 @@ use Rattle.job.specs.JobJ.{numbers_J, job_J, job_J_with}
 use Rattle.sheet.specs.SheetT.{tabulated, sheet_T}
 use Rattle.section5.specs.declared.Heights.{Heights}
 use Rattle.section5.specs.declared.Heights.TheVariants.{NoLine, Nowhere, Both}
-use Rattle.section5.specs.Section5.{checks, verdicts, figures, stability, permitted, heights, wk, Mw, φ, column, stability_factor}
+use Rattle.section5.specs.Section5.{checks, verdicts, figures, stability, permitted, heights, exact_N, wk, Mw, φ, column, stability_factor}
+use Rattle.section5.specs.PoleForce.{after_structure, after_fittings, after_live_wind}
 
 -- a double row with t = 3, the tube, the spacing lb and the step h
 unfoldable pub column_with : ℕ → ℕ → ℕ → Job
@@ -26,7 +27,7 @@ unfoldable pub sheet_from : ℕ → ℕ → List ℕ
 unfolding tabulated
 sheet_from first by = tabulated (λ k. first - by * k) 251 []
 
--- a stability factor in ten-thousandths, down and up to a whole number of them
+-- a fraction in ten-thousandths, down and up to a whole number of them
 unfoldable pub ten_thousandths : Ratio → List ℕ
 ten_thousandths x = down (whole 10000 ⊗ x) ∷ up (whole 10000 ⊗ x) ∷ []
 
@@ -47,6 +48,11 @@ rows =
     -- J's figures, wk, Mw, Z in tenths, verdicts and heights
     row (figures job_J) (477521 ∷ 1584 ∷ 571785 ∷ 2777 ∷ 4160 ∷ 171 ∷ 20093 ∷ 19030 ∷ 5953 ∷ 20093 ∷ 20093 ∷ [])
     ∷ row (wk job_J ∷ Mw job_J ∷ column job_J ∷ []) (42 ∷ 24291 ∷ 1974 ∷ [])
+    -- J's pole force step by step: 10,800 of its structure, 13,005 with the fittings, 20,092.5 with the live load, in wind 19,029.375
+    ∷ row (ten_thousandths (after_structure job_J 3000)) (108000000 ∷ 108000000 ∷ [])
+    ∷ row (ten_thousandths (after_fittings job_J 3000)) (130050000 ∷ 130050000 ∷ [])
+    ∷ row (ten_thousandths (exact_N job_J 3000)) (200925000 ∷ 200925000 ∷ [])
+    ∷ row (ten_thousandths (after_live_wind job_J 3000)) (190293750 ∷ 190293750 ∷ [])
     -- J's slenderness of 197.4 reads the line between entries 197 and 198 of sheet T, 212 and 208
     ∷ row (ten_thousandths (φ job_J sheet_T)) (2104 ∷ 2104 ∷ [])
     ∷ row (verdicts job_J sheet_T) (1 ∷ 1 ∷ 1 ∷ 1 ∷ 1 ∷ 1 ∷ 1 ∷ 0 ∷ 1 ∷ 1 ∷ 2 ∷ [])
