@@ -17,8 +17,8 @@ same_job j =
       deck_load = rw (family_first j.family, boards_first j.boards) refl;
       effects = rw (family_first j.family, boards_first j.boards, enclosure_first j.enclosure, wall_first j.wall) refl;
       slenderness = rw (family_first j.family, tube_first j.tube) refl;
-      verdicts = λ c wk mw n nw exempt. rw (family_first j.family, tube_first j.tube, boards_first j.boards, soil_below j.soil, soil_fourth j.soil) refl;
-      figures = λ wk n nw. rw (family_first j.family, tube_first j.tube, boards_first j.boards) refl;
+      verdicts = λ c wk mw n nw exempt h. rw (family_first j.family, tube_first j.tube, boards_first j.boards, soil_below j.soil, soil_fourth j.soil) refl;
+      figures = λ wk n nw h. rw (family_first j.family, tube_first j.tube, boards_first j.boards) refl;
     }
 
 heights_read : (n count : ℕ) → W.heights (family_number (family_of n)) count ≡ W.heights n count

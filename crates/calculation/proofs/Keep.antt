@@ -1,13 +1,15 @@
 -- Each check keeps its failure: those of a force with what they rest on, and all from a job to a harsher one.
 -- Assumes nothing.
-use mathlib.Core.Path.{◌≡◌, ap, sym}
+use mathlib.Core.Path.{◌≡◌, refl, ap, sym}
 use mathlib.Core.Bool.{Bool, true, false, cond}
 use mathlib.Core.List.{List}
-use Prim.Native.Nat.{ℕ, ◌*◌, ◌≤◌, ◌<◌}
+use Prim.Native.Nat.{ℕ, zero, suc, ◌*◌, ◌≤◌, ◌<◌}
 use native.Mathlib.Nat.{le_refl, le_of_eq, mul-le-mul, mul-le-mul_left}
+use native.Mathlib.Omega.{arith}
 use lib.Dec.{T, eqb, lit<}
 use Rattle.basis.specs.Fraction.{◌≼◌}
 use Rattle.basis.proofs.Tests.{Keeps, both_keep, either_keep, le_keep, eq_keep}
+use Rattle.basis.proofs.Searches.{top_mono}
 use Rattle.job.specs.declared.Job.{Job}
 use Rattle.job.specs.Bounds.{Bounds}
 use Rattle.sheet.specs.Rows.{Stands}
@@ -15,9 +17,10 @@ use Rattle.sheet.specs.StabilityFactor.{over, under, Weaker}
 use Rattle.sheet.proofs.Falls.{weakens}
 use Rattle.section5.specs.Section5.{soil_factor}
 use Rattle.section5.specs.Harsher.{Harsher}
-use Rattle.calculation.specs.Whole.{area, modulus, radius, stiffness, slender_limit, wk, mw, deck_load, load, force, force_wind, column_at, column_of, check1, check2, check3, check4, check5, check6, bears, bends, not_due, check9, base_bears, ground_bears, verdicts, poles}
+use Rattle.calculation.specs.Whole.{area, modulus, radius, stiffness, slender_limit, wk, mw, deck_load, load, force, force_wind, column_at, column_of, check1, check2, check3, check4, check5, check6, bears, bends, not_due, check9, base_bears, ground_bears, verdict12, verdicts, heights, poles, height_count, count}
 use Rattle.calculation.proofs.Verdicts.{fails, fails_due, Worse, none, next}
 use Rattle.calculation.proofs.Limits.{deflects_keep, bears_keep, bends_keep}
+use Rattle.calculation.proofs.Permitted.{permitted_grows}
 use Rattle.calculation.proofs.Growth.{factor_grows, column_slenderness_grows, force_grows, force_wind_grows, mw_grows, transom_moment_grows, transom_load_grows, ledger_moment_grows, ledger_load_grows, slip_grows, face_grows, tie_force_grows, capacity_falls}
 
 area_pos : (t : ℕ) → 0 < area t
@@ -87,9 +90,20 @@ module _ (s : List ℕ) {j k : Job} (h : Harsher j k) (b : Bounds k) (f : Stands
   unfolding poles load
   keep_poles l = both_keep (keep7 (force_grows h l)) (either_keep keep_not_due (keep8 (force_wind_grows h l)))
 
+  -- the pole of a harsher job stands at no more heights
+  pub count_falls : count s k ≤ count s j
+  unfolding count height_count
+  count_falls = top_mono _ _ (λ H. keep_poles (le_refl H)) 6001
+
+  -- 12, of no more heights
+  height_fails : {m n : ℕ} → n ≤ m → verdict12 j.height (heights j.family m) ≡ 2 → verdict12 k.height (heights k.family n) ≡ 2
+  height_fails {m = m} {n = zero} l e = refl
+  height_fails {m = zero} {n = suc H} l e = absurd (omega arith)
+  height_fails {m = suc G} {n = suc H} l e = fails (le_keep h.height (permitted_grows (sym h.family) (omega arith))) e
+
   -- the row of a job at its own height
   abbrev pub row_of : Job → List ℕ
-  row_of j = verdicts (column_of s j) j (wk j) (mw j) (force (load j j.height)) (force_wind (load j j.height)) (not_due j)
+  row_of j = verdicts (column_of s j) j (wk j) (mw j) (force (load j j.height)) (force_wind (load j j.height)) (not_due j) (heights j.family (count s j))
 
   pub worse : Worse (row_of j) (row_of k)
   unfolding verdicts
@@ -105,4 +119,5 @@ module _ (s : List ℕ) {j k : Job} (h : Harsher j k) (b : Bounds k) (f : Stands
       (next (fails keep9)
       (next (fails (base_kept (force_grows h h.height)))
       (next (fails (ground_kept j.soil k.soil h.soil h.strength h.pad (force_grows h h.height)))
-      none))))))))))
+      (next (height_fails count_falls)
+      none)))))))))))

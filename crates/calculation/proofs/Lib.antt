@@ -1,6 +1,7 @@
 pub mod Stability
 pub mod Slenderness
 pub mod Same
+pub mod Permitted
 pub mod Sequence
 pub mod Growth
 pub mod Verdicts

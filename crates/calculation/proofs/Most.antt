@@ -1,7 +1,7 @@
 -- Each figure's greatest value, over a job whose fields are in their ranges.
 -- Assumes nothing.
 use mathlib.Core.Bool.{Bool, true, false, cond}
-use Prim.Native.Nat.{ℕ, ◌+◌, ◌*◌, ◌-◌, ◌≤◌}
+use Prim.Native.Nat.{ℕ, zero, suc, ◌+◌, ◌*◌, ◌-◌, ◌≤◌, zero-le}
 use native.Mathlib.Nat.{le_refl, le_trans, min-le_right, mul-le-mul, mul-le-mul_left, mul-le-mul_right, div-le_of_le-mul}
 use native.Mathlib.Omega.{arith}
 use lib.Dec.{T, leb, eqb, lit≤}
@@ -13,7 +13,7 @@ use Rattle.job.specs.declared.Job.{Job}
 use Rattle.job.specs.Bounds.{Bounds}
 use Rattle.section5.proofs.LengthFactor.{length_factor_most}
 use Rattle.calculation.specs.Parts.{Load, Column}
-use Rattle.calculation.specs.Whole.{board, rail, overhang, shape_unit, tie_base, height_limit, shape, wind_pressure, wind_moment, wk, mw, deck, fittings, deck_live, load, force, force_wind, rounded_tenths, column_tenths, column_slenderness, slenderness, transom_moment, transom_load, transom_deflection, ledger_moment, ledger_load, ledger_deflection, slip, face, tie_force, permitted}
+use Rattle.calculation.specs.Whole.{board, rail, overhang, shape_unit, tie_base, height_limit, shape, wind_pressure, wind_moment, wk, mw, deck, fittings, deck_live, load, force, force_wind, rounded_tenths, column_tenths, column_slenderness, slenderness, transom_moment, transom_load, transom_deflection, ledger_moment, ledger_load, ledger_deflection, slip, face, tie_force, figure12, permitted, heights}
 use Rattle.calculation.specs.Division.{limit7, limit8}
 use Rattle.calculation.specs.Bounded.{WithinSixteen, Proper}
 use Rattle.calculation.proofs.Slenderness.{rounded_tenths_grows}
@@ -35,6 +35,10 @@ shape_unit_most e w = cond_below (eqb e 1) (lit≤ tt) (mul-le-mul_left 12 (cond
 
 pub permitted_most : (f H : ℕ) → permitted f H ≤ 5000
 permitted_most f H = le_trans (min-le_right _ (height_limit f)) (cond_below (eqb f 1) (le_refl 5000) (lit≤ tt))
+
+pub figure12_most : (f n : ℕ) → figure12 (heights f n) ≤ 5000
+figure12_most f zero = zero-le
+figure12_most f (suc H) = permitted_most f H
 
 -- a division up by a number that depends on the tube
 pub tube_below : {n m : ℕ} (tube : ℕ) (f : ℕ → ℕ) (x y b : ℕ) → T (leb (ceil b (f x)) m) → T (leb (ceil b (f y)) m) → n ≤ b → ceil n (f (cond (eqb tube 1) x y)) ≤ m

@@ -1,12 +1,12 @@
 -- Each figure and each check of Section5 is the whole-number form that the code works out, for every job.
 -- Assumes nothing.
 use mathlib.Core.Path.{◌≡◌, refl, ap, ap₂, ◌∙◌, fun_ext}
-use mathlib.Core.Bool.{Bool, ◌&&◌}
+use mathlib.Core.Bool.{Bool, ◌&&◌, cond}
 use mathlib.Core.List.{List}
-use Prim.Native.Nat.{ℕ, zero, suc, ◌+◌, ◌*◌, ◌/◌, ◌<◌}
+use Prim.Native.Nat.{ℕ, zero, suc, ◌+◌, ◌*◌, ◌/◌, ◌<◌, min}
 use native.Mathlib.Omega.{arith}
-use lib.Dec.{leb, eqb, lit<}
-use borrow.Author.Tests.{le-leb, lt-leb}
+use lib.Dec.{leb, ltb, eqb, lit<}
+use borrow.Author.Tests.{le-leb, lt-leb, lt-ltb, ltb-true, ltb-false}
 use Rattle.basis.specs.Search.{top}
 use Rattle.basis.specs.Fraction.{Ratio, fractions, whole, hundredths, ◌⊕◌, ◌⊗◌, ◌⊘◌, ◌÷◌, ◌≼◌, up, down}
 use Rattle.basis.proofs.Tests.{cases, same, tests}
@@ -14,6 +14,7 @@ use Rattle.basis.proofs.Scale.{up_is, up_by, down_is}
 use Rattle.job.specs.declared.Job.{Job}
 use Rattle.sheet.specs.StabilityFactor.{above, line, over, under}
 use Rattle.section5.specs.Decimals.{0·001}
+use Rattle.section5.specs.Section5.{verdict}
 use Rattle.section5.specs.Section5 as P
 use Rattle.calculation.specs.Whole as W
 use Rattle.calculation.specs.Whole.{from_count}
@@ -156,10 +157,6 @@ module _ (j : Job) where
   unfolding P.check11
   check11_same = rw (N_same j.height) (ground_bears_same _ _ _ _)
 
-  pub verdicts_same : (s : List ℕ) → P.verdicts j s ≡ W.verdicts (W.column_of s j) j (W.wk j) (W.mw j) (W.force (W.load j j.height)) (W.force_wind (W.load j j.height)) (W.not_due j)
-  unfolding P.verdicts W.verdicts
-  verdicts_same s = rw (check1_same, check2_same, check3_same, check4_same, check5_same, check6_same, check7_same s j.height, check8_same s j.height, not_due_same, check9_same, check10_same, check11_same)
-
   sag2_same : up (whole 1000 ⊗ P.deflection2 j) ≡ W.transom_deflection j
   unfolding fractions P.given P.deflection2 W.transom_load W.transom_deflection
   sag2_same = up_by 5000000000000 _ _ _ (omega arith)
@@ -172,10 +169,6 @@ module _ (j : Job) where
   unfolding fractions P.given P.slenderness W.slenderness
   slenderness_same = up_by 10000 _ _ _ (omega arith)
 
-  pub figures_same : P.figures j ≡ W.figures j (W.wk j) (W.force (W.load j j.height)) (W.force_wind (W.load j j.height))
-  unfolding P.figures
-  figures_same = rw (moment1_same, sag2_same, moment3_same, sag4_same, slip_same, slenderness_same, N_same j.height, Nw_same j.height, tie_force_same)
-
   pub poles_same : (s : List ℕ) (H : ℕ) → P.poles j s H ≡ W.poles (W.column_of s j) (W.deck_load j) j.weight (W.mw j) (W.not_due j) H
   unfolding P.poles W.poles W.load
   poles_same s H = rw (check7_same s H, check8_same s H, not_due_same)
@@ -184,18 +177,41 @@ module _ (j : Job) where
   unfolding P.stability W.count W.height_count
   stability_same s = greatest_top (P.poles j s) 6000 ∙ ap (λ (p : ℕ → Bool). from_count (top p 6001)) (fun_ext (poles_same s))
 
-  permitted_same : (H : ℕ) → P.permitted j H ≡ W.permitted j.family H
+  pub permitted_same : (H : ℕ) → P.permitted j H ≡ W.permitted j.family H
   unfolding P.permitted
-  permitted_same H = rw (permitted_at H)
+  permitted_same H = rw (permitted_at H, reduced (100000 * H / (100000 + H)))
     where
       permitted_at : (H : ℕ) → down (whole 100 ⊗ (hundredths H ⊘ (whole 1 ⊕ 0·001 ⊗ hundredths H))) ≡ 100000 * H / (100000 + H)
       permitted_at H = unfold fractions in down_is _ (100000 * H) (100000 + H) (omega arith)
+
+      reduced : (q : ℕ) → cond (ltb H 2535) H (cond (ltb H 2600) 2534 q) ≡ cond (ltb H 2600) (min H 2534) q
+      reduced q =
+          cases (ltb H 2535) (λ t. let l = ltb-true H 2535 t in rw (t, lt-ltb H 2600 (omega arith)) (omega arith))
+          (λ t. let l = ltb-false H 2535 t in rw t (cases (ltb H 2600) (λ u. rw u (omega arith)) (λ u. rw u refl)))
 
   heights_same : (n : ℕ) → P.heights j (from_count n) ≡ W.heights j.family n
   unfolding P.heights
   heights_same zero = refl
   heights_same (suc H) = rw (permitted_same H)
 
+  check12_same : (n : ℕ) → verdict (P.check12 j (from_count n)) ≡ W.verdict12 j.height (W.heights j.family n)
+  unfolding P.check12
+  check12_same zero = refl
+  check12_same (suc H) = rw (permitted_same H)
+
+  figure12_same : (n : ℕ) → P.figure12 j (from_count n) ≡ W.figure12 (W.heights j.family n)
+  unfolding P.figure12
+  figure12_same zero = refl
+  figure12_same (suc H) = permitted_same H
+
+  pub verdicts_same : (s : List ℕ) → P.verdicts j s ≡ W.verdicts (W.column_of s j) j (W.wk j) (W.mw j) (W.force (W.load j j.height)) (W.force_wind (W.load j j.height)) (W.not_due j) (W.heights j.family (W.count s j))
+  unfolding P.verdicts W.verdicts
+  verdicts_same s = rw (check1_same, check2_same, check3_same, check4_same, check5_same, check6_same, check7_same s j.height, check8_same s j.height, not_due_same, check9_same, check10_same, check11_same, stability_same s, check12_same (W.count s j))
+
+  pub figures_same : (s : List ℕ) → P.figures j s ≡ W.figures j (W.wk j) (W.force (W.load j j.height)) (W.force_wind (W.load j j.height)) (W.heights j.family (W.count s j))
+  unfolding P.figures
+  figures_same s = rw (moment1_same, sag2_same, moment3_same, sag4_same, slip_same, slenderness_same, N_same j.height, Nw_same j.height, tie_force_same, stability_same s, figure12_same (W.count s j))
+
   pub judgement_same : (s : List ℕ) → P.judgement j s ≡ W.judgement s j
   unfolding P.judgement W.judgement
-  judgement_same s = rw (verdicts_same s, figures_same, stability_same s, heights_same (W.count s j), wk_same, Mw_same, column_same)
+  judgement_same s = rw (verdicts_same s, figures_same s, stability_same s, heights_same (W.count s j), wk_same, Mw_same, column_same)

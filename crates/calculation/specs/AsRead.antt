@@ -4,6 +4,7 @@ use Rattle.std.specs.Prelude.{ℕ, Bool, List, ◌≡◌}
 use Rattle.kinds.specs.Kinds.{family_number, tube_number, enclosure_number, wall_number, soil_number, family_of, tube_of, enclosure_of, wall_of, soil_of}
 use Rattle.job.specs.declared.Job.{Job}
 use Rattle.job.specs.Read.{as_read}
+use Rattle.section5.specs.declared.Heights.{Heights}
 use Rattle.calculation.specs.Parts.{Column}
 use Rattle.calculation.specs.Whole as W
 
@@ -13,8 +14,8 @@ pub record SameJob (j : Job) : Type 0 where
   pub deck_load : W.deck_load (as_read j) ≡ W.deck_load j
   pub effects : W.effects (as_read j) ≡ W.effects j
   pub slenderness : W.column_slenderness (as_read j) ≡ W.column_slenderness j
-  pub verdicts : (c : Column) (wk mw n nw : ℕ) (exempt : Bool) → W.verdicts c (as_read j) wk mw n nw exempt ≡ W.verdicts c j wk mw n nw exempt
-  pub figures : (wk n nw : ℕ) → W.figures (as_read j) wk n nw ≡ W.figures j wk n nw
+  pub verdicts : (c : Column) (wk mw n nw : ℕ) (exempt : Bool) (h : Heights) → W.verdicts c (as_read j) wk mw n nw exempt h ≡ W.verdicts c j wk mw n nw exempt h
+  pub figures : (wk n nw : ℕ) (h : Heights) → W.figures (as_read j) wk n nw h ≡ W.figures j wk n nw h
 
 -- of a number of a kind
 pub record SameNumber (n : ℕ) : Type 0 where

@@ -1,12 +1,12 @@
 -- The whole-number forms that the code works out, each proved equal to that of Section5 in proofs/Same.antt. A figure's unit stands in its comment; lengths are in cm.
 -- Assumes nothing.
-use Rattle.std.specs.Prelude.{ℕ, zero, suc, ◌+◌, ◌*◌, ◌/◌, min, Bool, ◌&&◌, ◌||◌, cond, List, [], ◌∷◌, leb, ltb, eqb, Option, None, Some}
+use Rattle.std.specs.Prelude.{ℕ, zero, suc, ◌+◌, ◌*◌, ◌/◌, min, Bool, false, ◌&&◌, ◌||◌, cond, List, [], ◌∷◌, leb, ltb, eqb, Option, None, Some}
 use Rattle.basis.specs.Search.{top}
 use Rattle.basis.specs.Fraction.{ceil}
 use Rattle.job.specs.declared.Job.{Job}
 use Rattle.sheet.specs.StabilityFactor.{over, under}
 use Rattle.section5.specs.declared.Heights.{Heights}
-use Rattle.section5.specs.declared.Heights.TheVariants.{Nowhere, Both}
+use Rattle.section5.specs.declared.Heights.TheVariants.{NoLine, Nowhere, Both}
 use Rattle.section5.specs.declared.Judgement.{Judgement}
 use Rattle.section5.specs.Section5.{verdict, length_factor}
 use Rattle.calculation.specs.Parts.{Load, Column, Effects}
@@ -178,7 +178,7 @@ face ties step la = ties * step * (3 * la)
 unfoldable pub tie_force : Job → ℕ → ℕ
 tie_force j wk = ceil (14 * wk * face j.ties j.step j.la + 100000 * tie_base j.family) 100000
 
--- ---- the eleven checks
+-- ---- the twelve checks
 
 -- a deflection (load × span) / scale mm is at most span / 150 and at most 10 mm; the span is in cm
 unfoldable pub deflects : ℕ → ℕ → ℕ → Bool
@@ -229,9 +229,21 @@ ground_capacity soil strength pad = soil_factor soil * strength * pad
 abbrev pub ground_bears : ℕ → ℕ → ℕ → ℕ → Bool
 ground_bears soil strength pad n = leb (100 * n) (ground_capacity soil strength pad)
 
--- the row of eleven, of the column, wk, Mw, N, Nw and whether 8 is not due: 0 not due, 1 passes, 2 fails
-unfoldable pub verdicts : Column → Job → ℕ → ℕ → ℕ → ℕ → Bool → List ℕ
-verdicts c j wk mw n nw exempt =
+-- 12, of the job's height and what is said of heights: 0 where heights are not asked for; fails where none is reported
+abbrev pub verdict12 : ℕ → Heights → ℕ
+verdict12 height NoLine = 0
+verdict12 height Nowhere = verdict false
+verdict12 height (Both H permitted) = verdict (leb height permitted)
+
+-- the permitted height that is reported, 0 if none
+abbrev pub figure12 : Heights → ℕ
+figure12 NoLine = 0
+figure12 Nowhere = 0
+figure12 (Both H permitted) = permitted
+
+-- the row of twelve, of the column, wk, Mw, N, Nw, whether 8 is not due, and the heights: 0 not due, 1 passes, 2 fails
+unfoldable pub verdicts : Column → Job → ℕ → ℕ → ℕ → ℕ → Bool → Heights → List ℕ
+verdicts c j wk mw n nw exempt heights =
     verdict (check1 j)
     ∷ verdict (check2 j)
     ∷ verdict (check3 j)
@@ -243,11 +255,12 @@ verdicts c j wk mw n nw exempt =
     ∷ verdict (check9 j wk)
     ∷ verdict (base_bears n)
     ∷ verdict (ground_bears j.soil j.strength j.pad n)
+    ∷ verdict12 j.height heights
     ∷ []
 
--- of wk, N and Nw
-abbrev pub figures : Job → ℕ → ℕ → ℕ → List ℕ
-figures j wk n nw =
+-- of wk, N, Nw and the heights
+abbrev pub figures : Job → ℕ → ℕ → ℕ → Heights → List ℕ
+figures j wk n nw heights =
     transom_moment j
     ∷ transom_deflection j
     ∷ ledger_moment j
@@ -259,6 +272,7 @@ figures j wk n nw =
     ∷ tie_force j wk
     ∷ n
     ∷ n
+    ∷ figure12 heights
     ∷ []
 
 -- ---- heights
@@ -276,9 +290,9 @@ abbrev pub from_count : ℕ → Option ℕ
 from_count zero = None
 from_count (suc H) = Some H
 
--- the permitted height of a family and a stability height, cm
+-- the permitted height of a family and a stability height, cm: below 2,600 at most 2,534
 abbrev pub permitted : ℕ → ℕ → ℕ
-permitted family H = min (cond (ltb H 2600) H (100000 * H / (100000 + H))) (height_limit family)
+permitted family H = min (cond (ltb H 2600) (min H 2534) (100000 * H / (100000 + H))) (height_limit family)
 
 -- both heights of a count of heights
 abbrev pub heights : ℕ → ℕ → Heights
@@ -297,8 +311,8 @@ count s j = height_count (column_of s j) (deck_load j) j.weight (mw j) (not_due 
 unfoldable pub judgement : List ℕ → Job → Judgement
 judgement s j =
     record {
-      verdicts = verdicts (column_of s j) j (wk j) (mw j) (force (load j j.height)) (force_wind (load j j.height)) (not_due j);
-      figures = figures j (wk j) (force (load j j.height)) (force_wind (load j j.height));
+      verdicts = verdicts (column_of s j) j (wk j) (mw j) (force (load j j.height)) (force_wind (load j j.height)) (not_due j) (heights j.family (count s j));
+      figures = figures j (wk j) (force (load j j.height)) (force_wind (load j j.height)) (heights j.family (count s j));
       heights = heights j.family (count s j);
       wk = wk j;
       mw = mw j;

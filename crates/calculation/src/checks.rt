@@ -1,8 +1,8 @@
-// The eleven checks, each as a verdict: 0 not due, 1 passes, 2 fails.
+// The twelve checks, each as a verdict: 0 not due, 1 passes, 2 fails.
 ghost use Rattle.std.specs.Prelude.{cond, ◌≡◌, ◌≤◌, ◌<◌};
 ghost use Rattle.kinds.specs.Kinds.{soil_number};
 ghost use Rattle.section5.specs.Section5.{verdict};
-ghost use Rattle.calculation.specs.Whole.{deflects, check1, check2, check3, check4, check5, check6, check9, not_due, base_bears, ground_bears, verdicts};
+ghost use Rattle.calculation.specs.Whole.{deflects, check1, check2, check3, check4, check5, check6, check9, not_due, base_bears, ground_bears, verdict12, verdicts};
 
 use crate::columns::{Column, bears_of, bends_of};
 use crate::constants::{
@@ -14,7 +14,7 @@ use crate::figures::{
 };
 use job::bounded::BoundedJob;
 use kinds::{Enclosure, Soil};
-use section5::CHECKS;
+use section5::{CHECKS, Heights};
 use std::marker::Model;
 
 // A verdict: 1 passes, 2 fails; a number, since the paper requires a row of them.
@@ -147,9 +147,20 @@ fn check11_of(j: &BoundedJob, e: Effects) -> u8
     verdict_of(ground.bears(e.n))
 }
 
-// The row of eleven numbers, the form that the paper requires.
-pub fn verdicts_of(c: Column, j: &BoundedJob, e: Effects) -> [u8; CHECKS]
-    ensures { result ≡ verdicts c j.now e.wk e.mw e.n e.nw e.not_due }
+// Check 12, which fails where no height is reported; 0 where heights are not asked for.
+fn check12_of(j: &BoundedJob, heights: Heights) -> u8
+    ensures { result ≡ verdict12 j.now.height heights }
+{
+    match heights {
+        Heights::NoLine => 0,
+        Heights::Nowhere => verdict_of(false),
+        Heights::Both(_, permitted) => verdict_of(u64::from(j.height) <= permitted),
+    }
+}
+
+// The row of twelve numbers, the form that the paper requires.
+pub fn verdicts_of(c: Column, j: &BoundedJob, e: Effects, heights: Heights) -> [u8; CHECKS]
+    ensures { result ≡ verdicts c j.now e.wk e.mw e.n e.nw e.not_due heights }
 {
     let n = e.n;
     let v1 = check1_of(j);
@@ -163,5 +174,6 @@ pub fn verdicts_of(c: Column, j: &BoundedJob, e: Effects) -> [u8; CHECKS]
     let v9 = check9_of(j, e);
     let v10 = verdict_of(base_bears(n));
     let v11 = check11_of(j, e);
-    [v1, v2, v3, v4, v5, v6, v7, v8, v9, v10, v11]
+    let v12 = check12_of(j, heights);
+    [v1, v2, v3, v4, v5, v6, v7, v8, v9, v10, v11, v12]
 }

@@ -2,13 +2,13 @@
 ghost use Rattle.std.specs.Prelude.{◌≡◌, ◌≤◌};
 ghost use Rattle.basis.specs.Figure.{Is};
 ghost use Rattle.kinds.specs.Kinds.{enclosure_number, wall_number};
-ghost use Rattle.calculation.specs.Whole.{shape, wind_pressure, wind_moment, figures, rounded_tenths, column_slenderness, slenderness, transom_moment, transom_load, transom_deflection, ledger_moment, ledger_load, ledger_deflection, slip, face, tie_force};
+ghost use Rattle.calculation.specs.Whole.{shape, wind_pressure, wind_moment, figures, rounded_tenths, column_slenderness, slenderness, transom_moment, transom_load, transom_deflection, ledger_moment, ledger_load, ledger_deflection, slip, face, tie_force, figure12};
 
 use crate::constants::{board_of, factor_of, radius_of, shape_unit, stiffness_of, tie_base};
 use crate::effects::Effects;
 use job::bounded::BoundedJob;
 use kinds::{Enclosure, Wall};
-use section5::CHECKS;
+use section5::{CHECKS, Heights};
 use sheet::slenderness::Slenderness;
 
 // The shape factor, 1/100,000.
@@ -157,9 +157,19 @@ pub(crate) fn tie_force(j: &BoundedJob, e: Effects) -> u64
     (14 * e.wk * face + 100000 * tie_base(j.family)).div_ceil(100000)
 }
 
+// The permitted height that is reported, 0 if none.
+fn figure12_of(heights: Heights) -> u64
+    ensures { result ≡ figure12 heights }
+{
+    match heights {
+        Heights::NoLine | Heights::Nowhere => 0,
+        Heights::Both(_, permitted) => permitted,
+    }
+}
+
 // The figure of each check.
-pub fn figures_of(j: &BoundedJob, e: Effects) -> [u64; CHECKS]
-    ensures { result ≡ figures j.now e.wk e.n e.nw }
+pub fn figures_of(j: &BoundedJob, e: Effects, heights: Heights) -> [u64; CHECKS]
+    ensures { result ≡ figures j.now e.wk e.n e.nw heights }
 {
     [
         transom_moment(j),
@@ -173,5 +183,6 @@ pub fn figures_of(j: &BoundedJob, e: Effects) -> [u64; CHECKS]
         tie_force(j, e),
         e.n,
         e.n,
+        figure12_of(heights),
     ]
 }

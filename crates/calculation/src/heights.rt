@@ -88,14 +88,14 @@ impl Pole {
     }
 }
 
-// The permitted height of a stability height, cm: less where poles are high, and at most the family's.
+// The permitted height of a stability height, cm: below 2,600 no more than 2,600 permits, from there on less than the stability height, and at most the family's.
 fn permitted_of(family: Family, h: u64) -> u64
     requires { h ≤ 6000 }
     ensures { result ≡ permitted (family_number family) h }
 {
     let limit = height_limit(family);
     if h < 2600 {
-        h.min(limit)
+        h.min(2534).min(limit)
     } else {
         (100000 * h / (100000 + h)).min(limit)
     }

@@ -1,4 +1,4 @@
-// Section 5 worked out in whole numbers of 64 bits: loads, columns, figures, the eleven checks and heights.
+// Section 5 worked out in whole numbers of 64 bits: loads, columns, figures, the twelve checks and heights.
 #![tactic(auto)]
 
 pub mod checks;

@@ -48,4 +48,5 @@ module _ {s t : Support} (h : HarsherSupport s t) where
         (next (λ e. e)
         (next (fails (base_kept force_grows))
         (next (fails (ground_kept s.soil t.soil h.soil h.strength h.pad force_grows))
-        none))))))))))
+        (next (λ e. e)
+        none)))))))))))

@@ -36,7 +36,7 @@ module _ (sheet : List ℕ) (s : Support) where
   pub assembled : {t : Support} {z y : ℕ} {c : Column} {load : Load} {d e : Effects} {v : List ℕ}
       → t ≡ s → e.wk ≡ W.wk s → e.mw ≡ C.wind_moment e.wk t.bay t.step → y ≡ z → z ≡ W.column_slenderness s → c ≡ C.column_at sheet t.tube z → load ≡ W.load s
       → e.n ≡ C.force load → e.nw ≡ C.force_wind load → d ≡ e → v ≡ W.verdicts c s e.mw e.n e.nw
-      → record { verdicts = v; figures = 0 ∷ 0 ∷ 0 ∷ 0 ∷ 0 ∷ 0 ∷ d.n ∷ d.nw ∷ 0 ∷ d.n ∷ d.n ∷ []; heights = NoLine; wk = d.wk; mw = d.mw; z = y } ≡ judgement s sheet
+      → record { verdicts = v; figures = 0 ∷ 0 ∷ 0 ∷ 0 ∷ 0 ∷ 0 ∷ d.n ∷ d.nw ∷ 0 ∷ d.n ∷ d.n ∷ 0 ∷ []; heights = NoLine; wk = d.wk; mw = d.mw; z = y } ≡ judgement s sheet
   unfolding W.judgement W.mw W.column_of W.figures
   assembled et ew em ey ez ec el en enw ei ev = rw (ei, ev, en, enw, el, ec, ey, ez, em, ew, et) (sym (judgement_same s sheet))
 
@@ -45,6 +45,6 @@ module _ (c : Column) (m n nw : ℕ) where
   pub rowed : {s t : Support} {v7 v8 v10 v11 : ℕ} {b7 b8 b10 b11 : Bool}
       → t ≡ s → b7 ≡ C.bears c n → v7 ≡ verdict b7 → b8 ≡ C.bends c nw m → v8 ≡ verdict b8
       → b10 ≡ C.base_bears n → v10 ≡ verdict b10 → b11 ≡ C.ground_bears t.soil t.strength t.pad n → v11 ≡ verdict b11
-      → 0 ∷ 0 ∷ 0 ∷ 0 ∷ 0 ∷ 0 ∷ v7 ∷ v8 ∷ 0 ∷ v10 ∷ v11 ∷ [] ≡ W.verdicts c s m n nw
+      → 0 ∷ 0 ∷ 0 ∷ 0 ∷ 0 ∷ 0 ∷ v7 ∷ v8 ∷ 0 ∷ v10 ∷ v11 ∷ 0 ∷ [] ≡ W.verdicts c s m n nw
   unfolding W.verdicts
   rowed et t7 e7 t8 e8 t10 e10 t11 e11 = rw (e7, t7, e8, t8, e10, t10, e11, t11, et)

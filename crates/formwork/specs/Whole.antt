@@ -32,7 +32,7 @@ column_slenderness s = rounded_tenths (column_tenths s)
 unfoldable pub column_of : List ℕ → Support → Column
 column_of sheet s = column_at sheet s.tube (column_slenderness s)
 
--- the row of eleven, of the column, Mw, N and Nw
+-- the row of twelve, of the column, Mw, N and Nw
 unfoldable pub verdicts : Column → Support → ℕ → ℕ → ℕ → List ℕ
 verdicts c s mw n nw =
     0 ∷ 0 ∷ 0 ∷ 0 ∷ 0 ∷ 0
@@ -41,11 +41,12 @@ verdicts c s mw n nw =
     ∷ 0
     ∷ verdict (base_bears n)
     ∷ verdict (ground_bears s.soil s.strength s.pad n)
+    ∷ 0
     ∷ []
 
 -- of N and Nw
 unfoldable pub figures : ℕ → ℕ → List ℕ
-figures n nw = 0 ∷ 0 ∷ 0 ∷ 0 ∷ 0 ∷ 0 ∷ n ∷ nw ∷ 0 ∷ n ∷ n ∷ []
+figures n nw = 0 ∷ 0 ∷ 0 ∷ 0 ∷ 0 ∷ 0 ∷ n ∷ nw ∷ 0 ∷ n ∷ n ∷ 0 ∷ []
 
 unfoldable pub judgement : List ℕ → Support → Judgement
 judgement sheet s =

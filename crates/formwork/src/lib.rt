@@ -48,7 +48,7 @@ fn slenderness_of(s: &BoundedSupport) -> Slenderness
     rounded_tenths((1000 * length).div_ceil(radius_of(s.tube)))
 }
 
-// The row of eleven, the form that the paper requires, from the column and from Mw, N and Nw of the effects; 0 where a check does not apply.
+// The row of twelve, the form that the paper requires, from the column and from Mw, N and Nw of the effects; 0 where a check does not apply.
 #[tactic(auto, using(crate::proofs::Ways::rowed))]
 fn verdicts_of(c: Column, s: &BoundedSupport, e: Effects) -> [u8; CHECKS]
     ensures { result ≡ verdicts c s.now e.mw e.n e.nw }
@@ -63,7 +63,7 @@ fn verdicts_of(c: Column, s: &BoundedSupport, e: Effects) -> [u8; CHECKS]
         pad: s.pad,
     };
     let v11 = verdict_of(ground.bears(n));
-    [0, 0, 0, 0, 0, 0, v7, v8, 0, v10, v11]
+    [0, 0, 0, 0, 0, 0, v7, v8, 0, v10, v11, 0]
 }
 
 // The judgement of a support under a sheet that stands; that nothing is refused of the support is not asked for.
@@ -86,7 +86,7 @@ pub fn judge_accepted_support(sheet: &StandingSheet<'_>, s: &BoundedSupport) -> 
     };
     Judgement {
         verdicts: verdicts_of(c, s, e),
-        figures: [0, 0, 0, 0, 0, 0, e.n, e.nw, 0, e.n, e.n],
+        figures: [0, 0, 0, 0, 0, 0, e.n, e.nw, 0, e.n, e.n, 0],
         heights: Heights::NoLine,
         wk: e.wk,
         mw: e.mw,

@@ -1,41 +1,49 @@
 -- Demand 3, proved of what judging answers.
 -- Assumes nothing.
-use mathlib.Core.Path.{◌≡◌, refl, ap, ◌∙◌}
+use mathlib.Core.Path.{◌≡◌, refl, ap, sym, ◌∙◌}
 use mathlib.Core.Bool.{Bool}
 use mathlib.Core.List.{List}
 use mathlib.Core.Logic.{◌↔◌}
 use Prim.Native.Nat.{ℕ, zero, suc, ◌≤◌, ◌<◌}
-use native.Mathlib.Nat.{le_refl}
 use native.Mathlib.Omega.{arith}
 use lib.Dec.{T, lit≤}
 use lib.ListN.{get_or}
 use Rattle.std.specs.Prelude.{Ok}
 use Rattle.basis.specs.Fraction.{fractions, ◌≼◌}
 use Rattle.basis.proofs.Order.{mono, at_most_itself}
-use Rattle.basis.proofs.Searches.{top_mono, top_exact}
+use Rattle.basis.proofs.Searches.{top_exact}
 use Rattle.job.specs.declared.Job.{Job}
 use Rattle.job.proofs.Bounds.{bounds}
 use Rattle.section5.specs.Section5 as P
 use Rattle.sheet.specs.SheetT.{sheet_T}
+use Rattle.section5.specs.Poles.{NoHigher, UpTo}
 use Rattle.section5.specs.Harsher.{Harsher}
 use Rattle.calculation.specs.Whole as W
 use Rattle.calculation.proofs.Same.{judgement_same, poles_same}
 use Rattle.calculation.proofs.Verdicts.{worse_at}
-use Rattle.calculation.proofs.Keep.{worse, keep_poles}
-use Rattle.judge.specs.Answer.{Accepted, answer, verdict_in, heights_in}
+use Rattle.calculation.proofs.Permitted.{permitted_grows}
+use Rattle.calculation.proofs.Keep.{worse, keep_poles, count_falls}
+use Rattle.judge.specs.Answer.{Accepted, answer, verdict_in, heights_in, stability_told, permitted_told}
 use Rattle.judge.specs.Marked.{examined}
-use Rattle.judge.specs.Demand3.{rank, UpTo, heights_of, verdict_at, mild, harsh, Demand3}
+use Rattle.judge.specs.Demand3.{stability_of, permitted_of, verdict_at, mild, harsh, Demand3}
 use Rattle.judge.proofs.Ways.{sheet_stands, job_stands, accepted_answer}
 
 reflexive : (j : Job) → Harsher j j
 reflexive j = search (mono, at_most_itself)
 
-rank_count : (family n : ℕ) → rank (W.heights family n) ≡ n
-rank_count family zero = refl
-rank_count family (suc n) = refl
+-- both heights of two counts, of which the second is no greater
+stability_falls : (f g : ℕ) {m n : ℕ} → n ≤ m → NoHigher (stability_told (W.heights g n)) (stability_told (W.heights f m))
+stability_falls f g {m = m} {n = zero} l = tt
+stability_falls f g {m = zero} {n = suc H} l = absurd (omega arith)
+stability_falls f g {m = suc G} {n = suc H} l = omega arith
+
+permitted_falls : {f g m n : ℕ} → g ≡ f → n ≤ m → NoHigher (permitted_told (W.heights g n)) (permitted_told (W.heights f m))
+permitted_falls {m = m} {n = zero} e l = tt
+permitted_falls {m = zero} {n = suc H} e l = absurd (omega arith)
+permitted_falls {m = suc G} {n = suc H} e l = permitted_grows e (omega arith)
 
 -- a height of a count has just the numbers below the count
-up_to : (family n H : ℕ) → UpTo H (W.heights family n) ↔ (H < n)
+up_to : (family n H : ℕ) → UpTo H (stability_told (W.heights family n)) ↔ (H < n)
 up_to family zero H = (λ u. absurd u, λ l. absurd (omega arith))
 up_to family (suc n) H = (λ u. omega arith, λ l. omega arith)
 
@@ -47,11 +55,11 @@ module _ (s : List ℕ) (j : Job) (a : Accepted s j) where
   answer_is : answer s j ≡ Ok (W.judgement s j)
   answer_is = accepted_answer s j a ∙ ap Ok (judgement_same j s)
 
-  verdicts_are : (i : ℕ) → verdict_at s j i ≡ get_or (W.verdicts (W.column_of s j) j (W.wk j) (W.mw j) (W.force (W.load j j.height)) (W.force_wind (W.load j j.height)) (W.not_due j)) i 0
+  verdicts_are : (i : ℕ) → verdict_at s j i ≡ get_or (W.verdicts (W.column_of s j) j (W.wk j) (W.mw j) (W.force (W.load j j.height)) (W.force_wind (W.load j j.height)) (W.not_due j) (W.heights j.family (W.count s j))) i 0
   unfolding W.judgement
   verdicts_are i = ap (λ r. verdict_in r i) answer_is
 
-  heights_are : heights_of s j ≡ W.heights j.family (W.count s j)
+  heights_are : heights_in (answer s j) ≡ W.heights j.family (W.count s j)
   unfolding W.judgement
   heights_are = ap heights_in answer_is
 
@@ -59,13 +67,17 @@ no_pass_gained : (s : List ℕ) (j k : Job) → Accepted s j → Accepted s k �
 no_pass_gained s j k a b h i =
     rw (verdicts_are s j a i, verdicts_are s k b i) (worse_at (worse s h (bounds k (job_stands s k b)) (sheet_stands s k b)) i)
 
-no_height_gained : (s : List ℕ) (j k : Job) → Accepted s j → Accepted s k → Harsher j k → rank (heights_of s k) ≤ rank (heights_of s j)
-unfolding W.count W.height_count
-no_height_gained s j k a b h =
-    rw (heights_are s j a, heights_are s k b, rank_count k.family (W.count s k), rank_count j.family (W.count s j))
-    (top_mono (poles s j) (poles s k) (λ H. keep_poles s h (bounds k (job_stands s k b)) (sheet_stands s k b) (le_refl H)) 6001)
+-- a harsher job's pole stands at no more heights
+count_less : (s : List ℕ) (j k : Job) → Accepted s k → Harsher j k → W.count s k ≤ W.count s j
+count_less s j k b h = count_falls s h (bounds k (job_stands s k b)) (sheet_stands s k b)
 
-height_exact : (s : List ℕ) (j : Job) → Accepted s j → (H : ℕ) → H ≤ 6000 → T (P.poles j s H) ↔ UpTo H (heights_of s j)
+no_height_gained : (s : List ℕ) (j k : Job) → Accepted s j → Accepted s k → Harsher j k → NoHigher (stability_of s k) (stability_of s j)
+no_height_gained s j k a b h = rw (heights_are s j a, heights_are s k b) (stability_falls j.family k.family (count_less s j k b h))
+
+no_more_permitted : (s : List ℕ) (j k : Job) → Accepted s j → Accepted s k → Harsher j k → NoHigher (permitted_of s k) (permitted_of s j)
+no_more_permitted s j k a b h = rw (heights_are s j a, heights_are s k b) (permitted_falls (sym h.family) (count_less s j k b h))
+
+height_exact : (s : List ℕ) (j : Job) → Accepted s j → (H : ℕ) → H ≤ 6000 → T (P.poles j s H) ↔ UpTo H (stability_of s j)
 unfolding W.count W.height_count
 height_exact s j a H l =
     let e = top_exact (poles s j) (λ m n. keep_poles s (reflexive j) (bounds j (job_stands s j a)) (sheet_stands s j a)) 6001 H (omega arith) in
@@ -106,4 +118,4 @@ ordered =
     }
 
 pub demand3 : Demand3
-demand3 = record { no_pass_gained = no_pass_gained; no_height_gained = no_height_gained; height_exact = height_exact; reflexive = reflexive; unlike = (accepted.0, accepted.1, ordered) }
+demand3 = record { no_pass_gained = no_pass_gained; no_height_gained = no_height_gained; no_more_permitted = no_more_permitted; height_exact = height_exact; reflexive = reflexive; unlike = (accepted.0, accepted.1, ordered) }

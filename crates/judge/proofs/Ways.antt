@@ -35,8 +35,8 @@ module _ (s : List ℕ) (j : Job) where
   -- the parts of a judgement, as the code works them out from the job k, which is j, the slenderness y, which is z, and the effects d and d', which are e
   pub assembled : {k : Job} {z y count : ℕ} {c : Column} {d d' e : Effects} {deck : Load} {v f : List ℕ} {h : Heights}
       → k ≡ j → d ≡ e → d' ≡ e → e ≡ W.effects j → y ≡ z → z ≡ W.column_slenderness j → c ≡ W.column_at s k.tube z → deck ≡ W.deck_load j
-      → count ≡ W.height_count c deck k.weight d.mw d.not_due
-      → v ≡ W.verdicts c j e.wk e.mw e.n e.nw e.not_due → f ≡ W.figures j e.wk e.n e.nw → h ≡ W.heights k.family count
+      → count ≡ W.height_count c deck k.weight d.mw d.not_due → h ≡ W.heights k.family count
+      → v ≡ W.verdicts c j e.wk e.mw e.n e.nw e.not_due h → f ≡ W.figures j e.wk e.n e.nw h
       → record { verdicts = v; figures = f; heights = h; wk = d'.wk; mw = d'.mw; z = y } ≡ judgement j s
   unfolding W.judgement W.column_of W.count W.effects
-  assembled ek ei ei' ee ey ez ec ed eo ev ef eh = rw (eh, ev, ef, eo, ec, ed, ey, ez, ek, ei, ei', ee) (sym (judgement_same j s))
+  assembled ek ei ei' ee ey ez ec ed eo eh ev ef = rw (ev, ef, eh, eo, ec, ed, ey, ez, ek, ei, ei', ee) (sym (judgement_same j s))

@@ -1,13 +1,13 @@
 -- What judging answers: the first refusal of 1 to 5, or the judgement of Section5.
 -- Assumes nothing.
-use Rattle.std.specs.Prelude.{ℕ, ◌≡◌, List, get_or, Result, Ok, Err}
+use Rattle.std.specs.Prelude.{ℕ, ◌≡◌, List, get_or, Option, None, Some, Result, Ok, Err}
 use Rattle.basis.specs.Refusal.{Examined, nothing, first}
 use Rattle.basis.specs.declared.Refusal.{Refusal}
 use Rattle.job.specs.declared.Job.{Job}
 use Rattle.job.specs.Examine as Job
 use Rattle.sheet.specs.Sheet as Sheet
 use Rattle.section5.specs.declared.Heights.{Heights}
-use Rattle.section5.specs.declared.Heights.TheVariants.{NoLine}
+use Rattle.section5.specs.declared.Heights.TheVariants.{NoLine, Nowhere, Both}
 use Rattle.section5.specs.declared.Judgement.{Judgement}
 use Rattle.section5.specs.Section5.{judgement}
 
@@ -31,3 +31,14 @@ verdict_in (Err r) i = 0
 abbrev pub heights_in : Result Judgement Refusal → Heights
 heights_in (Ok g) = g.heights
 heights_in (Err r) = NoLine
+
+-- of what is told of heights: the stability height, and the permitted height
+abbrev pub stability_told : Heights → Option ℕ
+stability_told NoLine = None
+stability_told Nowhere = None
+stability_told (Both H permitted) = Some H
+
+abbrev pub permitted_told : Heights → Option ℕ
+permitted_told NoLine = None
+permitted_told Nowhere = None
+permitted_told (Both H permitted) = Some permitted

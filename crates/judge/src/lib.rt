@@ -29,11 +29,11 @@ pub fn judge_accepted(sheet: &StandingSheet<'_>, j: &BoundedJob) -> Judgement
         load: deck_load(j),
         weight: j.weight,
     };
-    let count = pole.height_count(e.mw, e.not_due);
+    let heights = heights_of(j.family, pole.height_count(e.mw, e.not_due));
     Judgement {
-        verdicts: verdicts_of(c, j, e),
-        figures: figures_of(j, e),
-        heights: heights_of(j.family, count),
+        verdicts: verdicts_of(c, j, e, heights),
+        figures: figures_of(j, e, heights),
+        heights,
         wk: e.wk,
         mw: e.mw,
         z: z.tenths,

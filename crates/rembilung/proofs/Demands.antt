@@ -26,8 +26,7 @@ use Rattle.section5.specs.Poles.{NoHigher, UpTo, with_height}
 use Rattle.section5.proofs.Poles.{poles_are_verdicts}
 use Rattle.section5.specs.Formwork as Formwork
 use Rattle.section5.specs.Harsher.{Harsher, HarsherSupport}
-use Rattle.judge.specs.Answer.{Accepted, verdict_in, heights_in}
-use Rattle.judge.specs.Demand3.{rank}
+use Rattle.judge.specs.Answer.{Accepted, answer, verdict_in, heights_in, stability_told, permitted_told}
 use Rattle.judge.specs.Demand3 as Judging
 use Rattle.judge.proofs.Ways.{stands_accepted, accepted_answer}
 use Rattle.judge.proofs.Demand.{demand3}
@@ -38,12 +37,12 @@ use Rattle.formwork.proofs.Order.{order}
 use Rattle.rembilung.specs.Call.{entries_of, call_code, call_buffer, write_code, write_buffer, read_code, read_buffer}
 use Rattle.rembilung.specs.Table.{Reads, Judges, Answers, SomeJob, report_of}
 use Rattle.rembilung.specs.Header.{report_most}
-use Rattle.rembilung.specs.Shown.{verdict_shown, height_shown}
+use Rattle.rembilung.specs.Shown.{verdict_shown, height_shown, permitted_shown}
 use Rattle.rembilung.specs.Demands.{Demand1, Demand2, Demands}
 use Rattle.rembilung.proofs.Table.{read_follows, stands_reads, write_follows, entries_stand, call_follows}
 use Rattle.rembilung.proofs.Answered.{call_refused, call_answered, write_refused, write_answered, read_refused, read_count, read_numbers}
 use Rattle.rembilung.proofs.Header.{write_halves, read_halves, header}
-use Rattle.rembilung.proofs.Shown.{verdict_shown_lem, support_verdict_shown, height_shown_lem}
+use Rattle.rembilung.proofs.Shown.{verdict_shown_lem, support_verdict_shown, heights_shown}
 
 demand1 : Demand1
 demand1 =
@@ -112,32 +111,34 @@ module _ (sheet file out : List ℕ) (w : Bytes file) (ns : List ℕ) (a : Answe
   verdict_is i l = rw (call_answered sheet file out w scaffold ns a).1 (verdict_shown_lem (job_of ns) (entries_of sheet) _ i l)
 
   height_is : height_shown (call_buffer sheet file out) ≡ stability (job_of ns) (entries_of sheet)
-  height_is = rw (call_answered sheet file out w scaffold ns a).1 (height_shown_lem (job_of ns) (entries_of sheet) _)
+  height_is = rw (call_answered sheet file out w scaffold ns a).1 (heights_shown (job_of ns) (entries_of sheet) _).0
+
+  permitted_is : permitted_shown (call_buffer sheet file out) ≡ permitted_told (heights (job_of ns) (stability (job_of ns) (entries_of sheet)))
+  permitted_is = rw (call_answered sheet file out w scaffold ns a).1 (heights_shown (job_of ns) (entries_of sheet) _).1
 
 -- judging accepts what the call judges
 accepted : (sheet file ns : List ℕ) → Judges scaffold sheet file ns → Accepted (entries_of sheet) (job_of ns)
 accepted sheet file ns a = stands_accepted (entries_of sheet) (job_of ns) (entries_stand sheet a.sheet_stands) a.reads.stands
-
--- heights in the order of the judgement's
-no_higher : (j k : Job) (a b : Option ℕ) → rank (heights k b) ≤ rank (heights j a) → NoHigher b a
-unfolding heights
-no_higher j k a None l = tt
-no_higher j k None (Some H) l = omega arith
-no_higher j k (Some K) (Some H) l = omega arith
-
-up_to : (j : Job) (a : Option ℕ) (H : ℕ) → Judging.UpTo H (heights j a) ↔ UpTo H a
-unfolding heights
-up_to j None H = (λ u. u, λ u. u)
-up_to j (Some K) H = (λ u. u, λ u. u)
 
 module _ (s : List ℕ) (j : Job) (a : Accepted s j) where
   verdict_judged : (i : ℕ) → Judging.verdict_at s j i ≡ get_or (verdicts j s) i 0
   unfolding judgement
   verdict_judged i = ap (λ r. verdict_in r i) (accepted_answer s j a)
 
-  heights_judged : Judging.heights_of s j ≡ heights j (stability j s)
+  heights_judged : heights_in (answer s j) ≡ heights j (stability j s)
   unfolding judgement
   heights_judged = ap heights_in (accepted_answer s j a)
+
+  stability_judged : Judging.stability_of s j ≡ stability j s
+  unfolding heights
+  stability_judged = rw heights_judged (told (stability j s))
+    where
+      told : (H : Option ℕ) → stability_told (heights j H) ≡ H
+      told None = refl
+      told (Some H) = refl
+
+  permitted_judged : Judging.permitted_of s j ≡ permitted_told (heights j (stability j s))
+  permitted_judged = ap permitted_told heights_judged
 
 module _ (sheet file₁ file₂ out₁ out₂ : List ℕ) (w₁ : Bytes file₁) (w₂ : Bytes file₂) (n₁ n₂ : List ℕ)
     (a : Answers scaffold sheet file₁ out₁ n₁) (b : Answers scaffold sheet file₂ out₂ n₂) (h : Harsher (job_of n₁) (job_of n₂)) where
@@ -154,16 +155,19 @@ module _ (sheet file₁ file₂ out₁ out₂ : List ℕ) (w₁ : Bytes file₁)
 
   no_height_gained : NoHigher (height_shown (call_buffer sheet file₂ out₂)) (height_shown (call_buffer sheet file₁ out₁))
   no_height_gained =
-      rw (height_is sheet file₁ out₁ w₁ n₁ a, height_is sheet file₂ out₂ w₂ n₂ b)
-      (no_higher (job_of n₁) (job_of n₂) _ _ (rw (heights_judged _ _ first, heights_judged _ _ second) at (demand3.no_height_gained (entries_of sheet) (job_of n₁) (job_of n₂) first second h)))
+      rw (height_is sheet file₁ out₁ w₁ n₁ a, height_is sheet file₂ out₂ w₂ n₂ b, ← stability_judged (entries_of sheet) (job_of n₁) first, ← stability_judged (entries_of sheet) (job_of n₂) second)
+      (demand3.no_height_gained (entries_of sheet) (job_of n₁) (job_of n₂) first second h)
+
+  no_more_permitted : NoHigher (permitted_shown (call_buffer sheet file₂ out₂)) (permitted_shown (call_buffer sheet file₁ out₁))
+  no_more_permitted =
+      rw (permitted_is sheet file₁ out₁ w₁ n₁ a, permitted_is sheet file₂ out₂ w₂ n₂ b, ← permitted_judged (entries_of sheet) (job_of n₁) first, ← permitted_judged (entries_of sheet) (job_of n₂) second)
+      (demand3.no_more_permitted (entries_of sheet) (job_of n₁) (job_of n₂) first second h)
 
 height_exact : (sheet file out : List ℕ) → Bytes file → (ns : List ℕ) → Answers scaffold sheet file out ns
     → (H : ℕ) → H ≤ 6000 → T (poles (job_of ns) (entries_of sheet) H) ↔ UpTo H (height_shown (call_buffer sheet file out))
 height_exact sheet file out w ns a H l =
     let c = accepted sheet file ns a.judges in
-    let e = rw (heights_judged _ _ c) at (demand3.height_exact (entries_of sheet) (job_of ns) c H l) in
-    let u = up_to (job_of ns) (stability (job_of ns) (entries_of sheet)) H in
-    rw (height_is sheet file out w ns a) (λ t. u.0 (e.0 t), λ t. e.1 (u.1 t))
+    rw (height_is sheet file out w ns a, ← stability_judged _ _ c) (demand3.height_exact (entries_of sheet) (job_of ns) c H l)
 
 -- the same numbers with another height, where field 7 allows it, are judged too
 module _ (sheet file ns : List ℕ) (H : ℕ) (a : Judges scaffold sheet file ns) (i : Inside (job_of (set ns 6 H)) 7) where
@@ -216,6 +220,7 @@ demands =
           record {
             no_pass_gained = no_pass_gained;
             no_height_gained = no_height_gained;
+            no_more_permitted = no_more_permitted;
             height_exact = height_exact;
             poles_shown = λ sheet file ns a H i. poles_shown sheet file ns H a i;
           };

@@ -1,24 +1,26 @@
--- The verdicts and the stability height that a report shows are the paper's.
+-- The verdicts and the heights that a report shows are the paper's.
 -- Assumes nothing.
 use mathlib.Core.Path.{◌≡◌, refl, ap, ◌∙◌}
+use mathlib.Core.Bool.{false}
 use mathlib.Core.List.{List, [], ◌∷◌, ◌++◌, append_assoc}
 use Prim.Native.Nat.{ℕ, zero, suc, ◌%◌, ◌<◌}
 use native.Mathlib.Omega.{arith}
-use lib.Dec.{lit<}
+use lib.Dec.{eqb, lit<}
 use lib.ListN.{length, get_or}
 use borrow.Author.Tests.{eq-eqb, ne_eqb}
 use Rattle.job.specs.declared.Job.{Job}
 use Rattle.support.specs.declared.Support.{Support}
 use Rattle.section5.specs.declared.Judgement.{Judgement}
 use Rattle.std.specs.Prelude.{Option, None, Some}
-use Rattle.section5.specs.Section5.{checks, verdicts, figures, stability, heights, judgement}
+use Rattle.section5.specs.Section5.{checks, verdicts, figures, stability, permitted, heights, judgement}
 use Rattle.section5.specs.Formwork as Formwork
+use Rattle.judge.specs.Answer.{permitted_told}
 use Rattle.report.specs.Digits.{digit_byte, digits}
 use Rattle.report.specs.Report.{space, line_end, number_then, check_line, check_lines, pair, pair_line, height_line, report}
-use Rattle.report.specs.ReadBack.{number_at}
+use Rattle.report.specs.ReadBack.{number_at, NoDigitFirst}
 use Rattle.report.proofs.Digits.{decimal, one, more}
 use Rattle.report.proofs.ReadBack.{read_back}
-use Rattle.rembilung.specs.Shown.{after, after_lines, shown_in, verdict_shown, height_at, height_shown}
+use Rattle.rembilung.specs.Shown.{after, after_lines, shown_in, verdict_shown, height_at, height_shown, permitted_at, permitted_shown}
 
 after_here : (b : ℕ) (l : List ℕ) → after b (b ∷ l) ≡ l
 unfolding after
@@ -48,17 +50,22 @@ passed : (b n a : ℕ) (l : List ℕ) → b < 48 → (a ≡ b → ⊥) → after
 unfolding number_then
 passed b n a l h g = rw append_assoc (after_digits b h n (a ∷ l) ∙ after_other b a l g)
 
--- a number and a space are read as the number
-number_read : (n : ℕ) (l : List ℕ) → number_at (number_then n space ++ l) ≡ n
+-- a number and a byte that is no digit are read as the number
+number_read : (n after : ℕ) (l : List ℕ) → NoDigitFirst (after ∷ l) → number_at (number_then n after ++ l) ≡ n
 unfolding number_then
-number_read n l = rw append_assoc (read_back.back n (space ∷ l) refl)
+number_read n after l h = rw append_assoc (read_back.back n (after ∷ l) h)
 
--- and as that height, since no digit is the byte of "n"
-number_height : (n : ℕ) (l : List ℕ) → height_at (number_then n space ++ l) ≡ Some n
-unfolding height_at number_then
-number_height n l =
-    rw append_assoc
-    (rw (ne_eqb (get_or (digits n ++ (space ∷ l)) 0 0) 110 (λ e. omega (arith, first_below n (space ∷ l)))) (ap Some (read_back.back n (space ∷ l) refl)))
+-- no number begins with the byte of "n"
+never_n : (n after : ℕ) (l : List ℕ) → eqb (get_or (number_then n after ++ l) 0 0) 110 ≡ false
+unfolding number_then
+never_n n after l = rw append_assoc (ne_eqb (get_or (digits n ++ (after ∷ l)) 0 0) 110 (λ e. omega (arith, first_below n (after ∷ l))))
+
+-- so two numbers with which a line ends are read as both heights
+pair_heights : (m n : ℕ) (l : List ℕ) → (height_at (pair m n ++ l) ≡ Some m) × (permitted_at (pair m n ++ l) ≡ Some n)
+unfolding pair height_at permitted_at
+pair_heights m n l =
+    rw (append_assoc, never_n m space (number_then n line_end ++ l), ended space m (number_then n line_end ++ l) (lit< tt))
+    (ap Some (number_read m space _ refl), ap Some (number_read n line_end l refl))
 
 line_end_lem : (c v f : ℕ) (l : List ℕ) → after line_end (check_line c v f ++ l) ≡ l
 unfolding check_line
@@ -69,7 +76,7 @@ line_end_lem c v f l =
 -- the verdict of the first line
 first_line : (c v f : ℕ) (l : List ℕ) → number_at (after space (check_line c v f ++ l)) ≡ v
 unfolding check_line
-first_line c v f l = simp append_assoc (rw (ended 32 c _ (lit< tt)) (number_read v _))
+first_line c v f l = simp append_assoc (rw (ended 32 c _ (lit< tt)) (number_read v space _ refl))
 
 lines_show : (c : ℕ) (vs fs rest : List ℕ) (i : ℕ) → length vs ≡ length fs → i < length vs → verdict_shown (check_lines c vs fs ++ rest) i ≡ get_or vs i 0
 unfolding check_lines verdict_shown shown_in after_lines
@@ -85,11 +92,12 @@ lines_end c [] fs rest e = refl
 lines_end c (v ∷ vs) [] rest e = absurd (omega arith)
 lines_end c (v ∷ vs) (f ∷ fs) rest e = rw append_assoc (ap (after_lines (length vs)) (line_end_lem c v f _) ∙ lines_end (suc c) vs fs rest (omega arith))
 
--- the height of the line after the checks
-line_height : (j : Job) (H : Option ℕ) (l : List ℕ) → height_at (after space (height_line (heights j H) ++ l)) ≡ H
-unfolding height_line heights after height_at pair_line pair
-line_height j None l = refl
-line_height j (Some H) l = rw append_assoc (number_height H _)
+-- the heights of the line after the checks
+line_heights : (j : Job) (H : Option ℕ) (l : List ℕ) →
+    (let shown = after space (height_line (heights j H) ++ l) in (height_at shown ≡ H) × (permitted_at shown ≡ permitted_told (heights j H)))
+unfolding height_line heights after height_at permitted_at pair_line
+line_heights j None l = (refl, refl)
+line_heights j (Some H) l = pair_heights H (permitted j H) l
 
 -- the report of any judgement shows its verdicts
 verdicts_shown : (g : Judgement) (rest : List ℕ) (i : ℕ) → length g.verdicts ≡ length g.figures → i < length g.verdicts → verdict_shown (report g ++ rest) i ≡ get_or g.verdicts i 0
@@ -104,6 +112,12 @@ pub support_verdict_shown : (s : Support) (sheet rest : List ℕ) (i : ℕ) → 
 unfolding Formwork.judgement Formwork.verdicts Formwork.figures
 support_verdict_shown s sheet rest i l = verdicts_shown (Formwork.judgement s sheet) rest i refl l
 
-pub height_shown_lem : (j : Job) (s rest : List ℕ) → height_shown (report (judgement j s) ++ rest) ≡ stability j s
-unfolding report judgement height_shown shown_in verdicts figures
-height_shown_lem j s rest = simp append_assoc (ap (λ t. height_at (after space t)) (lines_end 1 (verdicts j s) (figures j) _ refl) ∙ line_height j (stability j s) _)
+pub heights_shown : (j : Job) (s rest : List ℕ) →
+    (let text = report (judgement j s) ++ rest in
+    (height_shown text ≡ stability j s) × (permitted_shown text ≡ permitted_told (heights j (stability j s))))
+unfolding report judgement height_shown permitted_shown shown_in verdicts figures
+heights_shown j s rest =
+    simp append_assoc (
+      ap (λ t. height_at (after space t)) (lines_end 1 (verdicts j s) (figures j s) _ refl) ∙ (line_heights j (stability j s) _).0,
+      ap (λ t. permitted_at (after space t)) (lines_end 1 (verdicts j s) (figures j s) _ refl) ∙ (line_heights j (stability j s) _).1,
+    )

@@ -16,7 +16,7 @@ use Rattle.report.specs.Report.{check_lines, height_line, wind_line, column_line
 use Rattle.rembilung.specs.Call.{entries_of, call_code, call_buffer, write_code, write_buffer, read_code, read_buffer}
 use Rattle.rembilung.specs.Table.{Refuses, ReadRow, Reads, WriteRow, Writes, report_of, CallRow, Judges, Answers, SomeJob}
 use Rattle.rembilung.specs.Header.{report_most}
-use Rattle.rembilung.specs.Shown.{verdict_shown, height_shown}
+use Rattle.rembilung.specs.Shown.{verdict_shown, height_shown, permitted_shown}
 
 -- 1. A job with a figure outside its range, two figures that contradict each other, a wall unfit for a single row, a damaged column sheet or
 -- job file, or a buffer too short is refused with the number and place in document 01, and the buffers stay as document 01 says. Everything
@@ -45,7 +45,7 @@ pub record Demand2 : Type 0 where
       (let j = job_of ns in
       let s = entries_of sheet in
       call_buffer sheet file out
-      ≡ (check_lines 1 (verdicts j s) (figures j) ++ (height_line (heights j (stability j s)) ++ (wind_line (wk j) (Mw j) ++ column_line (column j)))) ++ drop (call_code sheet file out) out)
+      ≡ (check_lines 1 (verdicts j s) (figures j s) ++ (height_line (heights j (stability j s)) ++ (wind_line (wk j) (Mw j) ++ column_line (column j)))) ++ drop (call_code sheet file out) out)
   -- that of a support has no height line
   pub support_reported : (sheet file out : List ℕ) → Bytes file → (ns : List ℕ) → Answers support sheet file out ns →
       (let s = support_of ns in
@@ -60,17 +60,21 @@ pub record Demand2 : Type 0 where
       (let ns = take (count k) (read_buffer file before) in
       (write_code k ns out ≡ length file) × (write_buffer k ns out ≡ file ++ drop (length file) out))
 
--- 3. Take any two accepted jobs under one column sheet, so ordered. Then every check that fails for the first fails for the second. The
--- second's stability height is no greater than the first's, none counting as the least. And for every accepted job, of all heights from 0 to
--- 60 m, in whole centimetres, its pole checks pass exactly at those up to its reported stability height, and at none where none is reported.
+-- 3. Take any two accepted jobs under one column sheet, so ordered. Then every check that fails for the first fails for the second, check 12
+-- among them. The second's stability height is no greater than the first's, none counting as the least, nor is its permitted height (document
+-- 02, request 5). And for every accepted job, of all heights from 0 to 60 m, in whole centimetres, its pole checks pass exactly at those up to
+-- its reported stability height, and at none where none is reported.
 pub record Demand3 : Type 0 where
-  -- a check that the first report shows as failed the second shows as failed, and the second shows no greater height
+  -- a check that the first report shows as failed the second shows as failed, and the second shows no greater heights
   pub no_pass_gained : (sheet file₁ file₂ out₁ out₂ : List ℕ) → Bytes file₁ → Bytes file₂ → (n₁ n₂ : List ℕ)
       → Answers scaffold sheet file₁ out₁ n₁ → Answers scaffold sheet file₂ out₂ n₂ → Harsher (job_of n₁) (job_of n₂)
       → (i : ℕ) → i < checks → verdict_shown (call_buffer sheet file₁ out₁) i ≡ 2 → verdict_shown (call_buffer sheet file₂ out₂) i ≡ 2
   pub no_height_gained : (sheet file₁ file₂ out₁ out₂ : List ℕ) → Bytes file₁ → Bytes file₂ → (n₁ n₂ : List ℕ)
       → Answers scaffold sheet file₁ out₁ n₁ → Answers scaffold sheet file₂ out₂ n₂ → Harsher (job_of n₁) (job_of n₂)
       → NoHigher (height_shown (call_buffer sheet file₂ out₂)) (height_shown (call_buffer sheet file₁ out₁))
+  pub no_more_permitted : (sheet file₁ file₂ out₁ out₂ : List ℕ) → Bytes file₁ → Bytes file₂ → (n₁ n₂ : List ℕ)
+      → Answers scaffold sheet file₁ out₁ n₁ → Answers scaffold sheet file₂ out₂ n₂ → Harsher (job_of n₁) (job_of n₂)
+      → NoHigher (permitted_shown (call_buffer sheet file₂ out₂)) (permitted_shown (call_buffer sheet file₁ out₁))
   -- the pole checks pass exactly up to the height shown
   pub height_exact : (sheet file out : List ℕ) → Bytes file → (ns : List ℕ) → Answers scaffold sheet file out ns
       → (H : ℕ) → H ≤ 6000 → T (poles (job_of ns) (entries_of sheet) H) ↔ UpTo H (height_shown (call_buffer sheet file out))

@@ -12,8 +12,8 @@ file_most scaffold = 42
 file_most support = 24
 
 abbrev pub report_most : Kind → ℕ
-report_most scaffold = 168
-report_most support = 120
+report_most scaffold = 178
+report_most support = 127
 
 -- the upper half of what is returned is the refusal's number, and 0 exactly where the call answers; the lower half is the place
 pub record Halves (returned : ℕ) (Row : ℕ → ℕ → Type 0) (Answered : Type 0) : Type 0 where

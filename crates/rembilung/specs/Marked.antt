@@ -25,13 +25,13 @@ returned sheet file room =
 unfoldable pub rows : List Row
 unfolding sheet_T numbers_J numbers_S longest returned encode_all
 rows =
-    -- J's report has 151 bytes
-    row (returned sheet_T (encode_all numbers_J) (report_most scaffold)) (0 ∷ 151 ∷ [])
-    ∷ row (returned sheet_T (encode_all numbers_J) 150) (8 ∷ 151 ∷ [])
-    -- S's has 110, the longest support's 120
-    ∷ row (returned sheet_T (encode_all numbers_S) (report_most support)) (0 ∷ 110 ∷ [])
-    ∷ row (returned sheet_T (encode_all numbers_S) 109) (8 ∷ 110 ∷ [])
-    ∷ row (returned sheet_T (encode_all (longest support)) (report_most support)) (0 ∷ 120 ∷ [])
+    -- J's report has 161 bytes
+    row (returned sheet_T (encode_all numbers_J) (report_most scaffold)) (0 ∷ 161 ∷ [])
+    ∷ row (returned sheet_T (encode_all numbers_J) 160) (8 ∷ 161 ∷ [])
+    -- S's has 117, the longest support's 127
+    ∷ row (returned sheet_T (encode_all numbers_S) (report_most support)) (0 ∷ 117 ∷ [])
+    ∷ row (returned sheet_T (encode_all numbers_S) 116) (8 ∷ 117 ∷ [])
+    ∷ row (returned sheet_T (encode_all (longest support)) (report_most support)) (0 ∷ 127 ∷ [])
     -- a sheet before a file: no sheet, and one whose entry 250 is 116, with a file of 80 00
     ∷ row (returned [] (128 ∷ 0 ∷ []) 0) (1 ∷ 0 ∷ [])
     ∷ row (returned (set sheet_T 250 116) (128 ∷ 0 ∷ []) 0) (2 ∷ 250 ∷ [])

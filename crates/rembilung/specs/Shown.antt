@@ -1,4 +1,4 @@
--- What a reader sees in a report: the verdict in the line of a check, and the stability height.
+-- What a reader sees in a report: the verdict in the line of a check, the stability height and the permitted height.
 -- Assumes nothing.
 use Rattle.std.specs.Prelude.{cond, ℕ, zero, suc, List, [], ◌∷◌, eqb, get_or, Option, None, Some}
 use Rattle.section5.specs.Section5.{checks}
@@ -34,3 +34,12 @@ height_at bytes = cond (eqb (get_or bytes 0 0) 110) None (Some (number_at bytes)
 unfoldable pub height_shown : List ℕ → Option ℕ
 unfolding shown_in height_at
 height_shown text = height_at (shown_in checks text)
+
+-- the permitted height, in the same line: none in the same case, else what stands after the next space
+unfoldable pub permitted_at : List ℕ → Option ℕ
+unfolding after
+permitted_at bytes = cond (eqb (get_or bytes 0 0) 110) None (Some (number_at (after space bytes)))
+
+unfoldable pub permitted_shown : List ℕ → Option ℕ
+unfolding shown_in permitted_at
+permitted_shown text = permitted_at (shown_in checks text)

@@ -15,12 +15,13 @@ use Rattle.job.proofs.Bounds.{bounds}
 use Rattle.support.specs.declared.Support.{Support}
 use Rattle.support.specs.Rows.{Stands as SupportStands}
 use Rattle.support.proofs.Bounds.{bounds as support_bounds}
+use Rattle.section5.specs.declared.Heights.{Heights}
 use Rattle.section5.specs.Section5.{verdict, judgement}
 use Rattle.section5.specs.Formwork as Formwork
 use Rattle.calculation.specs.Whole as W
 use Rattle.calculation.proofs.Most as Most
 use Rattle.calculation.proofs.Stability.{height_count_most}
-use Rattle.calculation.proofs.Verdicts.{verdict_digit, due_digit}
+use Rattle.calculation.proofs.Verdicts.{verdict_digit, height_digit, due_digit}
 use Rattle.calculation.proofs.Same.{judgement_same}
 use Rattle.formwork.specs.Whole as F
 use Rattle.formwork.proofs.Most as SupportMost
@@ -38,10 +39,13 @@ width k {n} m t h = digits_most k n (lt_below m t h)
 verdict_width : (b : Bool) → length (digits (verdict b)) ≡ 1
 verdict_width b = one_length _ (verdict_digit b)
 
+height_width : (height : ℕ) (h : Heights) → length (digits (W.verdict12 height h)) ≡ 1
+height_width height h = one_length _ (height_digit height h)
+
 due_width : (c b : Bool) → length (digits (cond c 0 (verdict b))) ≡ 1
 due_width c b = one_length _ (due_digit c b)
 
-checks_most : (s : List ℕ) (j : Job) → Bounds j → length (check_lines 1 (W.judgement s j).verdicts (W.judgement s j).figures) ≤ 119
+checks_most : (s : List ℕ) (j : Job) → Bounds j → length (check_lines 1 (W.judgement s j).verdicts (W.judgement s j).figures) ≤ 129
 unfolding digits_within digits check_lines W.judgement W.verdicts
 checks_most s j r =
     let f1 = width 6 4400000 tt (Most.transom_moment_most r) in
@@ -53,7 +57,8 @@ checks_most s j r =
     let f7 = width 5 142000 tt (Most.force_own_most r) in
     let f8 = width 5 142000 tt (Most.force_wind_own_most r) in
     let f9 = width 5 900000 tt (Most.tie_force_most r (Most.wk_most r)) in
-    simp (length-append, check_line_length, verdict_width, due_width) (omega arith)
+    let f12 = width 3 5000 tt (Most.figure12_most j.family (W.count s j)) in
+    simp (length-append, check_line_length, verdict_width, due_width, height_width) (omega arith)
 
 height_most : (family n : ℕ) → n ≤ 6001 → length (height_line (W.heights family n)) ≤ 17
 unfolding height_line

@@ -9,13 +9,13 @@ use Rattle.section5.specs.Section5 as Section5
 use Rattle.section5.specs.Formwork as Formwork
 use Rattle.report.specs.Report.{report}
 
--- 119 for the lines of the checks, 17 for the heights, 20 for the wind and 12 for the column
+-- 129 for the lines of the checks, 17 for the heights, 20 for the wind and 12 for the column
 abbrev pub enough : ℕ
-enough = 168
+enough = 178
 
--- of a support: 88 for the lines of the checks, 20 for the wind and 12 for the column
+-- of a support: 95 for the lines of the checks, 20 for the wind and 12 for the column
 abbrev pub support_enough : ℕ
-support_enough = 120
+support_enough = 127
 
 pub record Enough : Type 0 where
   pub no_longer : (sheet : List ℕ) (j : Job) → Job.Stands j → length (report (Section5.judgement j sheet)) ≤ enough

@@ -15,10 +15,10 @@ pub mod refusal;
 mod text;
 
 // A buffer of that length has room for the report of every accepted job, scaffold's or support's (specs/Enough.antt).
-pub const ENOUGH: usize = 168;
+pub const ENOUGH: usize = 178;
 
 // One of this length for that of every accepted support.
-pub const SUPPORT_ENOUGH: usize = 120;
+pub const SUPPORT_ENOUGH: usize = 127;
 
 // How many bytes the report of a judgement has.
 #[tactic(auto, unfolding(crate::specs::Report::report))]

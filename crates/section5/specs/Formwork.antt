@@ -103,12 +103,12 @@ module _ (s : Support) where
   unfoldable pub check11 : Bool
   check11 = ground_bears s.soil s.strength s.pad N
 
-  -- the row of eleven: 0 where a check does not apply, 1 passes, 2 fails
+  -- the row of twelve: 0 where a check does not apply, 1 passes, 2 fails
   unfoldable pub verdicts : List ℕ → List ℕ
-  verdicts sheet = 0 ∷ 0 ∷ 0 ∷ 0 ∷ 0 ∷ 0 ∷ verdict (check7 sheet) ∷ verdict (check8 sheet) ∷ 0 ∷ verdict check10 ∷ verdict check11 ∷ []
+  verdicts sheet = 0 ∷ 0 ∷ 0 ∷ 0 ∷ 0 ∷ 0 ∷ verdict (check7 sheet) ∷ verdict (check8 sheet) ∷ 0 ∷ verdict check10 ∷ verdict check11 ∷ 0 ∷ []
 
   unfoldable pub figures : List ℕ
-  figures = 0 ∷ 0 ∷ 0 ∷ 0 ∷ 0 ∷ 0 ∷ N ∷ Nw ∷ 0 ∷ N ∷ N ∷ []
+  figures = 0 ∷ 0 ∷ 0 ∷ 0 ∷ 0 ∷ 0 ∷ N ∷ Nw ∷ 0 ∷ N ∷ N ∷ 0 ∷ []
 
   -- ---- what a report tells
 

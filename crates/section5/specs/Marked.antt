@@ -37,16 +37,25 @@ shown NoLine = []
 shown Nowhere = []
 shown (Both H P) = H ∷ P ∷ []
 
--- the verdict of a check, from 1, under sheet T
+-- J whose stability height is 0
+unfoldable pub grounded : Job
+unfolding job_of numbers_J
+grounded = job_of (set (set numbers_J 11 12000) 12 1563)
+
+-- the verdict and the figure of a check, from 1, under sheet T
 unfoldable pub verdict_of : ℕ → Job → ℕ
 unfolding sheet_T
 verdict_of check j = get_or (verdicts j sheet_T) (check - 1) 0
 
+unfoldable pub figure_of : ℕ → Job → ℕ
+unfolding sheet_T
+figure_of check j = get_or (figures j sheet_T) (check - 1) 0
+
 unfoldable pub rows : List Row
-unfolding sheet_T job_J job_J_with column_with light_with sheet_from ten_thousandths shown verdict_of
+unfolding sheet_T job_J job_J_with column_with light_with sheet_from ten_thousandths shown grounded verdict_of figure_of
 rows =
     -- J's figures, wk, Mw, Z in tenths, verdicts and heights
-    row (figures job_J) (477521 ∷ 1584 ∷ 571785 ∷ 2777 ∷ 4160 ∷ 171 ∷ 20093 ∷ 19030 ∷ 5953 ∷ 20093 ∷ 20093 ∷ [])
+    row (figures job_J sheet_T) (477521 ∷ 1584 ∷ 571785 ∷ 2777 ∷ 4160 ∷ 171 ∷ 20093 ∷ 19030 ∷ 5953 ∷ 20093 ∷ 20093 ∷ 3173 ∷ [])
     ∷ row (wk job_J ∷ Mw job_J ∷ column job_J ∷ []) (42 ∷ 24291 ∷ 1974 ∷ [])
     -- J's pole force step by step: 10,800 of its structure, 13,005 with the fittings, 20,092.5 with the live load, in wind 19,029.375
     ∷ row (ten_thousandths (after_structure job_J 3000)) (108000000 ∷ 108000000 ∷ [])
@@ -55,15 +64,24 @@ rows =
     ∷ row (ten_thousandths (after_live_wind job_J 3000)) (190293750 ∷ 190293750 ∷ [])
     -- J's slenderness of 197.4 reads the line between entries 197 and 198 of sheet T, 212 and 208
     ∷ row (ten_thousandths (φ job_J sheet_T)) (2104 ∷ 2104 ∷ [])
-    ∷ row (verdicts job_J sheet_T) (1 ∷ 1 ∷ 1 ∷ 1 ∷ 1 ∷ 1 ∷ 1 ∷ 0 ∷ 1 ∷ 1 ∷ 2 ∷ [])
-    ∷ row (length (verdicts job_J sheet_T) ∷ length (figures job_J) ∷ []) (checks ∷ checks ∷ [])
+    ∷ row (verdicts job_J sheet_T) (1 ∷ 1 ∷ 1 ∷ 1 ∷ 1 ∷ 1 ∷ 1 ∷ 0 ∷ 1 ∷ 1 ∷ 2 ∷ 1 ∷ [])
+    ∷ row (length (verdicts job_J sheet_T) ∷ length (figures job_J sheet_T) ∷ []) (checks ∷ checks ∷ [])
     ∷ row (shown (heights job_J (stability job_J sheet_T))) (3277 ∷ 3173 ∷ [])
     -- J with strength 201 passes 11
     ∷ row (verdict_of 11 (job_J_with 24 201) ∷ []) (1 ∷ [])
     -- J at 3,277 passes 7, at 3,278 fails
     ∷ row (verdict_of 7 (job_J_with 7 3277) ∷ verdict_of 7 (job_J_with 7 3278) ∷ []) (1 ∷ 2 ∷ [])
-    -- for a double row, stability 2,599 permits 2,599, 2,600 permits 2,534, 6,000 permits 5,000
-    ∷ row (permitted job_J 2599 ∷ permitted job_J 2600 ∷ permitted job_J 6000 ∷ []) (2599 ∷ 2534 ∷ 5000 ∷ [])
+    -- for a double row, stability 2,534 permits 2,534, 2,535 to 2,599 permit 2,534, and 2,600: 26 / 1.026 = 25.341..; 2,601 permits 26.01 / 1.02601 = 25.3506.., 6,000 permits 5,000
+    ∷ row (permitted job_J 2533 ∷ permitted job_J 2534 ∷ permitted job_J 2535 ∷ permitted job_J 2599 ∷ []) (2533 ∷ 2534 ∷ 2534 ∷ 2534 ∷ [])
+    ∷ row (permitted job_J 2600 ∷ permitted job_J 2601 ∷ permitted job_J 6000 ∷ []) (2534 ∷ 2535 ∷ 5000 ∷ [])
+    -- J at 3,173 passes 12, at 3,174 fails
+    ∷ row (verdict_of 12 (job_J_with 7 3173) ∷ verdict_of 12 (job_J_with 7 3174) ∷ []) (1 ∷ 2 ∷ [])
+    -- J with 30,000 N/m² over all layers, 1.4 × 30,375 N on the pole, which bears 21,091: it has no height, and fails 12 with figure 0
+    ∷ row (shown (heights (job_J_with 12 30000) (stability (job_J_with 12 30000) sheet_T))) []
+    ∷ row (verdict_of 12 (job_J_with 12 30000) ∷ figure_of 12 (job_J_with 12 30000) ∷ []) (2 ∷ 0 ∷ [])
+    -- with 12,000 and nets of 1,563 N, 21,090.6 N at the ground, it stands at 0 and no higher: figure 0 too
+    ∷ row (shown (heights grounded (stability grounded sheet_T))) (0 ∷ 0 ∷ [])
+    ∷ row (verdict_of 12 grounded ∷ figure_of 12 grounded ∷ []) (2 ∷ 0 ∷ [])
     -- double row, tube 1, spacing 155, t = 3: step 184 passes 6, 185 fails
     ∷ row (verdict_of 6 (column_with 1 155 184) ∷ verdict_of 6 (column_with 1 155 185) ∷ []) (1 ∷ 2 ∷ [])
     -- J with wind 350 has 8 not due, 351 due (and passes)

@@ -1,6 +1,6 @@
 -- Document 01, from "Constants" to "Heights", in its order and its symbols, with what document 02 changes of it: lengths in metres, forces in N, loads in N/m² and N/m.
 -- Assumes nothing.
-use Rattle.std.specs.Prelude.{ℕ, zero, suc, min, Bool, true, false, ◌&&◌, ◌||◌, cond, List, [], ◌∷◌, get_or, ltb, eqb, Option, None, Some}
+use Rattle.std.specs.Prelude.{ℕ, zero, suc, min, Bool, true, false, ◌&&◌, ◌||◌, cond, List, [], ◌∷◌, get_or, leb, ltb, eqb, Option, None, Some}
 use Rattle.basis.specs.Fraction.{Ratio, whole, tenths, hundredths, thousandths, ◌⊕◌, ◌⊖◌, ◌⊗◌, ◌⊘◌, ◌÷◌, ◌², ◌³, ◌⁴, ◌≼◌, up, down, fractions}
 use Rattle.job.specs.declared.Job.{Job}
 use Rattle.section5.specs.Decimals.{0·001, 0·175, 0·213, 0·30, 0·7, 1·0, 1·146, 1·155, 1·19, 1·2, 1·3, 1·4, 1·615, 2·15, 2·30}
@@ -10,7 +10,7 @@ use Rattle.section5.specs.declared.Judgement.{Judgement}
 
 -- how many checks there are
 abbrev pub checks : ℕ
-checks = 11
+checks = 12
 
 -- metres to millimetres; N·m to N·mm
 unfoldable pub mm : Ratio → Ratio
@@ -348,7 +348,40 @@ module _ (j : Job) where
   unfoldable pub check11 : Bool
   check11 = ground_bears j.soil j.strength j.pad (N j.height)
 
-  -- the row of eleven: 0 not due, 1 passes, 2 fails
+  -- ---- Heights
+
+  -- the pole checks at the height H
+  unfoldable pub poles : List ℕ → ℕ → Bool
+  poles sheet H = check7 sheet H && (not_due || check8 sheet H)
+
+  -- the stability height, cm
+  unfoldable pub stability : List ℕ → Option ℕ
+  stability sheet = greatest (poles sheet) 6000
+
+  -- the permitted height of a stability height H (5.3.7), cm; that of 2,535 to 2,599 is 2,534 before the caps
+  unfoldable pub permitted : ℕ → ℕ
+  permitted H =
+      min (cond (ltb H 2535) H (cond (ltb H 2600) 2534 (down (whole 100 ⊗ (hundredths H ⊘ (whole 1 ⊕ 0·001 ⊗ hundredths H))))))
+      (cond double 5000 2400)
+
+  -- both heights, or none
+  unfoldable pub heights : Option ℕ → Heights
+  heights None = Nowhere
+  heights (Some H) = Both H (permitted H)
+
+  -- 12 the job's height, at most the permitted height; fails where none is reported
+  unfoldable pub check12 : Option ℕ → Bool
+  check12 None = false
+  check12 (Some H) = leb j.height (permitted H)
+
+  -- its figure: the permitted height, 0 if none
+  unfoldable pub figure12 : Option ℕ → ℕ
+  figure12 None = 0
+  figure12 (Some H) = permitted H
+
+  -- ---- the rows of all checks
+
+  -- the row of twelve: 0 not due, 1 passes, 2 fails
   unfoldable pub verdicts : List ℕ → List ℕ
   verdicts sheet =
       verdict check1
@@ -362,11 +395,12 @@ module _ (j : Job) where
       ∷ verdict check9
       ∷ verdict check10
       ∷ verdict check11
+      ∷ verdict (check12 (stability sheet))
       ∷ []
 
   -- the figures that the report gives; 2 and 4 in micrometres
-  unfoldable pub figures : List ℕ
-  figures =
+  unfoldable pub figures : List ℕ → List ℕ
+  figures sheet =
       moment1
       ∷ up (whole 1000 ⊗ deflection2)
       ∷ moment3
@@ -378,28 +412,8 @@ module _ (j : Job) where
       ∷ tie_force
       ∷ N j.height
       ∷ N j.height
+      ∷ figure12 (stability sheet)
       ∷ []
-
-  -- ---- Heights
-
-  -- the pole checks at the height H
-  unfoldable pub poles : List ℕ → ℕ → Bool
-  poles sheet H = check7 sheet H && (not_due || check8 sheet H)
-
-  -- the stability height, cm
-  unfoldable pub stability : List ℕ → Option ℕ
-  stability sheet = greatest (poles sheet) 6000
-
-  -- the permitted height of a stability height H (5.3.7), cm
-  unfoldable pub permitted : ℕ → ℕ
-  permitted H =
-      min (cond (ltb H 2600) H (down (whole 100 ⊗ (hundredths H ⊘ (whole 1 ⊕ 0·001 ⊗ hundredths H)))))
-      (cond double 5000 2400)
-
-  -- both heights, or none
-  unfoldable pub heights : Option ℕ → Heights
-  heights None = Nowhere
-  heights (Some H) = Both H (permitted H)
 
   -- ---- what a report tells
 
@@ -411,7 +425,7 @@ module _ (j : Job) where
   judgement sheet =
       record {
         verdicts = verdicts sheet;
-        figures = figures;
+        figures = figures sheet;
         heights = heights (stability sheet);
         wk = wk;
         mw = Mw;
@@ -424,5 +438,5 @@ unfolding mm tube_area tube_modulus tube_radius tube_inertia f E soil_factor lb 
 given = tt
 
 unfoldable pub paper : Unit {0}
-unfolding fractions given greatest factor_at length_factor wind_pressure wind_moment rounded entry between stability_factor ground_capacity bears bends base_bears ground_bears shape wk b G2 L G1 exact_N exact_Nw N Nw Mw exact_Z Z φ Fg Fq Pg Pq moment1 check1 deflection2 check2 moment3 check3 deflection4 check4 slip check5 slenderness check6 check7 check8 not_due tie_force check9 check10 check11 verdicts figures poles stability permitted heights column judgement
+unfolding fractions given greatest factor_at length_factor wind_pressure wind_moment rounded entry between stability_factor ground_capacity bears bends base_bears ground_bears shape wk b G2 L G1 exact_N exact_Nw N Nw Mw exact_Z Z φ Fg Fq Pg Pq moment1 check1 deflection2 check2 moment3 check3 deflection4 check4 slip check5 slenderness check6 check7 check8 not_due tie_force check9 check10 check11 poles stability permitted heights check12 figure12 verdicts figures column judgement
 paper = tt

@@ -52,15 +52,15 @@ fn heights_of(heights: Heights) -> [u64; 4] {
     }
 }
 
-// The 31 parts of a judgement, in the order of a record's answer.
-fn parts_of(j: Judgement) -> [u64; 31] {
+// The 33 parts of a judgement, in the order of a record's answer.
+fn parts_of(j: Judgement) -> [u64; 33] {
     let words = [0; 2]
         .into_iter()
         .chain(j.verdicts.map(u64::from))
         .chain(j.figures)
         .chain(heights_of(j.heights))
         .chain([j.wk, j.mw, j.z]);
-    let mut parts = [0; 31];
+    let mut parts = [0; 33];
     for (part, word) in parts.iter_mut().zip(words) {
         *part = word;
     }
@@ -68,11 +68,11 @@ fn parts_of(j: Judgement) -> [u64; 31] {
 }
 
 // After a refusal every part but its number and place counts as 0.
-fn answer_of(judged: Result<Judgement, Refusal>) -> [u64; 31] {
+fn answer_of(judged: Result<Judgement, Refusal>) -> [u64; 33] {
     match judged {
         Ok(judgement) => parts_of(judgement),
         Err(refusal) => {
-            let mut answer = [0; 31];
+            let mut answer = [0; 33];
             answer[0] = u64::from(refusal.number());
             answer[1] = refusal.place();
             answer
@@ -89,14 +89,14 @@ impl fmt::Display for Part {
         match self.0 {
             0 => write!(f, "refusal"),
             1 => write!(f, "place"),
-            k @ 2..=12 => write!(f, "verdict {}", k - 1),
-            k @ 13..=23 => write!(f, "figure {}", k - 12),
-            24 => write!(f, "stability given"),
-            25 => write!(f, "stability"),
-            26 => write!(f, "permitted given"),
-            27 => write!(f, "permitted"),
-            28 => write!(f, "wk"),
-            29 => write!(f, "Mw"),
+            k @ 2..=13 => write!(f, "verdict {}", k - 1),
+            k @ 14..=25 => write!(f, "figure {}", k - 13),
+            26 => write!(f, "stability given"),
+            27 => write!(f, "stability"),
+            28 => write!(f, "permitted given"),
+            29 => write!(f, "permitted"),
+            30 => write!(f, "wk"),
+            31 => write!(f, "Mw"),
             _ => write!(f, "Z"),
         }
     }
@@ -229,7 +229,7 @@ fn judge_file<
 }
 
 fn main(rt: HostRuntime) -> io::Result<()> {
-    judge_file::<_, _, 1008, 232>(&rt, "jobs", "jobs.bin", "sheets", |front, record| {
+    judge_file::<_, _, 1008, 240>(&rt, "jobs", "jobs.bin", "sheets", |front, record| {
         judge_job(&rt, front, record)
     })?;
     judge_file::<_, _, 4, 1040>(&rt, "sheets", "sheets.bin", "count", |_, record| {
