@@ -4,12 +4,21 @@
 #include <inttypes.h>
 #include <string.h>
 
-/* The columns of a judged row: eleven verdicts, three heights, eleven figures, wind, its moment, tenths of slenderness. */
+/* A column keeps its place from one version to the next: the checks that were there first stand together, each later one at
+ * the end. */
+enum { FIRST_CHECKS = 11 };
+
+/* The columns of a judged row: verdicts and figures, three heights, wind, its moment, tenths of slenderness. */
 #define JUDGED_COLUMNS (2 * CHECKS + 6)
 
 static void put_numbered(FILE *to, char separator, const char *word) {
-    for (int k = 1; k <= CHECKS; k++)
+    for (int k = 1; k <= FIRST_CHECKS; k++)
         fprintf(to, "%c%s %d", separator, word, k);
+}
+
+static void put_later_names(FILE *to, char separator) {
+    for (int k = FIRST_CHECKS + 1; k <= CHECKS; k++)
+        fprintf(to, "%ccheck %d%cfigure %d", separator, k, separator, k);
 }
 
 static void put_names(FILE *to, char separator, const char *const *names, size_t number) {
@@ -27,6 +36,7 @@ void put_answer_names(FILE *to, char separator) {
     put_names(to, separator, heights, sizeof heights / sizeof heights[0]);
     put_numbered(to, separator, "figure");
     put_names(to, separator, back, sizeof back / sizeof back[0]);
+    put_later_names(to, separator);
     putc('\n', to);
 }
 
@@ -35,8 +45,15 @@ static void put_number(FILE *to, char separator, uint32_t number) {
 }
 
 static void put_numbers(FILE *to, char separator, const uint32_t *numbers) {
-    for (int k = 0; k < CHECKS; k++)
+    for (int k = 0; k < FIRST_CHECKS; k++)
         put_number(to, separator, numbers[k]);
+}
+
+static void put_later_checks(FILE *to, char separator, const Report *report) {
+    for (int k = FIRST_CHECKS; k < CHECKS; k++) {
+        put_number(to, separator, report->verdicts[k]);
+        put_number(to, separator, report->figures[k]);
+    }
 }
 
 static void put_text(FILE *to, char separator, const char *bytes, size_t length) {
@@ -78,6 +95,7 @@ static void put_report(FILE *to, char separator, const Answer *answer) {
     put_number(to, separator, report->wind);
     put_number(to, separator, report->moment);
     put_number(to, separator, report->slenderness_tenths);
+    put_later_checks(to, separator, report);
 }
 
 static void put_empty(FILE *to, char separator, int number) {

@@ -17,6 +17,7 @@ const char *const check_names[CHECKS] = {
     "tie force",
     "pole force against 40000 N",
     "pole force against what the ground under the pad bears",
+    "height against the permitted height",
 };
 
 /* What is still to be read; once good is 0, nothing more is. */
@@ -84,7 +85,8 @@ int read_report(const uint8_t *bytes, size_t length, const Kind *kind, Report *r
     report->moment = take_number(&rest, '\n');
     take_word(&rest, "column ");
     report->slenderness_tenths = take_number(&rest, '\n');
-    return rest.good && rest.left == 0;
+    /* Line 12 shows the permitted height of the line "height": 0 with "height none", and of a support. */
+    return rest.good && rest.left == 0 && report->figures[HEIGHT_CHECK - 1] == report->permitted;
 }
 
 int first_failing(const Report *report) {

@@ -7,13 +7,15 @@
 
 #include "fields.h"
 
-#define CHECKS 11
+#define CHECKS 12
 enum { NOT_DUE = 0, PASSES = 1, FAILS = 2 };
+/* The check whose figure the line "height" shows too, as the permitted height. */
+enum { HEIGHT_CHECK = 12 };
 
 typedef struct {
     uint32_t verdicts[CHECKS]; /* of check k at k - 1 */
     uint32_t figures[CHECKS];
-    int stands;                /* 0 where both heights are none, or the kind of job has none */
+    int stands;                /* 0 where both heights are none, or the kind of job has none; both are then 0 here */
     uint32_t stability;
     uint32_t permitted;
     uint32_t wind;

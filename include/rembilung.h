@@ -4,7 +4,7 @@
  * What it does. A scaffold job is 25 whole numbers that describe one facade scaffold of tube and couplers; a formwork
  * support is 13, of which the first is 3. A job file is a job of either kind packed into bytes: each number in groups of
  * seven bits, low group first, top bit set on every byte but its last. The column sheet is the table of stability
- * factors, 502 bytes. From a sheet and a job file, rembilung_verdict writes a report: eleven checks with verdict and
+ * factors, 502 bytes. From a sheet and a job file, rembilung_verdict writes a report: twelve checks with verdict and
  * figure, two heights (of a scaffold), wind and slenderness.
  *
  *     uint32_t numbers[REMBILUNG_NUMBERS] = { 1, 1, 105, 150, 180, 2, 3000, 3, 4, 2, 3000, 5000, 0,
@@ -58,10 +58,10 @@ extern "C" {
 #define REMBILUNG_SUPPORT_NUMBERS 13
 /* No job file is longer, and no report: with buffers of these sizes refusal 8 never comes, whichever kind the job is. */
 #define REMBILUNG_FILE_MOST 42
-#define REMBILUNG_REPORT_MOST 168
+#define REMBILUNG_REPORT_MOST 178
 /* The same where the job is a support. */
 #define REMBILUNG_SUPPORT_FILE_MOST 24
-#define REMBILUNG_SUPPORT_REPORT_MOST 120
+#define REMBILUNG_SUPPORT_REPORT_MOST 127
 /* The rows of a book, at most; with room for so many, refusal 8 never comes of reading one. */
 #define REMBILUNG_BOOK_ROWS_MOST 200
 /* No book is longer: with a buffer of this size refusal 8 never comes of writing one. */
@@ -164,7 +164,7 @@ static inline uint32_t rembilung_place(uint64_t result) {
  * none of 1, 2 and 3 is refused 3 at field 1, unless 6 or 7 comes before.
  *
  * The report is text in ASCII, each line ended by one byte 0A (hexadecimal), one space between parts. That of a scaffold
- * has fourteen lines:
+ * has fifteen lines:
  *
  *     1 VERDICT FIGURE    transom moment, N mm
  *     2 VERDICT FIGURE    transom deflection, micrometres
@@ -177,18 +177,20 @@ static inline uint32_t rembilung_place(uint64_t result) {
  *     9 VERDICT FIGURE    tie force, N
  *     10 VERDICT FIGURE   pole force N against 40,000 N
  *     11 VERDICT FIGURE   pole force N against what the ground under the pad bears
+ *     12 VERDICT FIGURE   the job's height against the permitted height: FIGURE is PERMITTED, cm, and 0 with "height none"
  *     height STABILITY PERMITTED    cm, or "height none" where the pole stands at no height
  *     wind WK MW                    wind pressure, N/m2, and the pole's moment from it, N mm
  *     column Z                      slenderness at which the sheet is read, in tenths: 1974 is 197.4
  *
  * VERDICT is 1 passes, 2 fails, 0 not due (of a scaffold check 8 alone, in light wind on an open face). Figures are
- * rounded up to a whole number. Z is rounded up too: to a tenth up to 250, to a whole number above, so that 250.1 is
- * shown as 2510.
+ * rounded up to a whole number, but for that of 12, which is rounded down. Z is rounded up too: to a tenth up to 250, to
+ * a whole number above, so that 250.1 is shown as 2510.
  * STABILITY is the greatest height from 0 to 6,000 cm at which checks 7 and 8 hold, the job's own height set aside.
- * PERMITTED is clause 5.3.7's: less than STABILITY from 2,600 cm on, and at most 5,000 (double row) or 2,400 (single
- * row).
+ * PERMITTED is STABILITY up to 2,534, then 2,534 up to a STABILITY of 2,599, from 2,600 on what clause 5.3.7 makes of it,
+ * rounded down; and at most 5,000 (double row) or 2,400 (single row). Check 12 fails where the job is higher than that,
+ * and with "height none".
  *
- * A support is judged by clause 5.6, and its report has thirteen lines: the line "height" is left out. Checks 7, 8, 10
+ * A support is judged by clause 5.6, and its report has fourteen lines: the line "height" is left out. Checks 7, 8, 10
  * and 11 apply, 8 also without wind; the others are shown with verdict 0 and figure 0. */
 uint64_t rembilung_verdict(const uint8_t *sheet, size_t sheet_len,
                            const uint8_t *file, size_t file_len,

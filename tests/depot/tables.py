@@ -7,21 +7,32 @@ FIELDS = ["family", "tube", "pole spacing across", "bay", "step", "tie interval"
 HEAD = ",".join(FIELDS)
 ANSWERS = ("row,name,result,refusal,place,cell,words,first failing check,check 1,check 2,check 3,check 4,check 5,check 6,check 7,"
            "check 8,check 9,check 10,check 11,height,stability height,permitted height,figure 1,figure 2,figure 3,figure 4,"
-           "figure 5,figure 6,figure 7,figure 8,figure 9,figure 10,figure 11,wind,wind moment,slenderness in tenths")
+           "figure 5,figure 6,figure 7,figure 8,figure 9,figure 10,figure 11,wind,wind moment,slenderness in tenths,"
+           "check 12,figure 12")
+# What stands behind the words where a row was not judged: the first failing check, and the columns of a judged row.
+NOT_JUDGED = "," * 31
 
 J = "1,1,105,150,180,2,3000,3,4,2,3000,5000,0,300,300,1000,1,200,1,240,1,8000,4,200,2000"
 J_BACK = "2000,200,4,8000,1,240,1,200,1,1000,300,300,0,5000,3000,2,4,3,3000,2,180,150,105,1,1"
-# J as document 01 reports it, heights and slenderness as request 1 of document 02 has them: check 11 alone fails.
+# J as document 01 reports it, heights and slenderness as request 1 of document 02 has them and check 12 as request 5 has it:
+# check 11 alone fails.
 J_DUE = ("fails,,,,check 11 fails: pole force against what the ground under the pad bears,11,1,1,1,1,1,1,1,0,1,1,2,"
-         "3000,3277,3173,477521,1584,571785,2777,4160,171,20093,19030,5953,20093,20093,42,24291,1974")
+         "3000,3277,3173,477521,1584,571785,2777,4160,171,20093,19030,5953,20093,20093,42,24291,1974,1,3173")
 # Document 01: J with strength 201 passes 11.
 PASS = "1,1,105,150,180,2,3000,3,4,2,3000,5000,0,300,300,1000,1,200,1,240,1,8000,4,201,2000"
 PASS_DUE = ("passes,,,,,,1,1,1,1,1,1,1,0,1,1,1,"
-            "3000,3277,3173,477521,1584,571785,2777,4160,171,20093,19030,5953,20093,20093,42,24291,1974")
+            "3000,3277,3173,477521,1584,571785,2777,4160,171,20093,19030,5953,20093,20093,42,24291,1974,1,3173")
+# By hand: N = 1.2 (300 H + 1837.5) + 7087.5 and Nw with 6024.375 in place of 7087.5; the ground bears 20800 N at strength 208.
+AS_PERMITTED = "1,1,105,150,180,2,3173,3,4,2,3000,5000,0,300,300,1000,1,200,1,240,1,8000,4,208,2000"
+AS_PERMITTED_DUE = ("passes,,,,,,1,1,1,1,1,1,1,0,1,1,1,"
+                    "3173,3277,3173,477521,1584,571785,2777,4160,171,20716,19653,5953,20716,20716,42,24291,1974,1,3173")
+HIGHER = "1,1,105,150,180,2,3174,3,4,2,3000,5000,0,300,300,1000,1,200,1,240,1,8000,4,208,2000"
+HIGHER_DUE = ("fails,,,,check 12 fails: height against the permitted height,12,1,1,1,1,1,1,1,0,1,1,1,"
+              "3174,3277,3173,477521,1584,571785,2777,4160,171,20719,19656,5953,20719,20719,42,24291,1974,2,3173")
 # The second job of tests/vectors/jobs.txt: a single row that stands at no height.
 SINGLE = "2,2,108,180,150,2,1118,1,7,1,5467,30000,804,136,351,914,2,600,1,223,1,16000,4,150,773"
 SINGLE_DUE = ("fails,,,,check 3 fails: ledger moment,3,1,1,2,1,2,1,2,2,1,2,2,"
-              "1118,none,none,1051571,3413,1481264,9650,8932,159,46301,40177,6675,46301,46301,162,78076,1835")
+              "1118,none,none,1051571,3413,1481264,9650,8932,159,46301,40177,6675,46301,46301,162,78076,1835,2,0")
 
 ONLY_DIGITS = "; digits alone are read, no thousands separator, decimals, sign or unit"
 LAST = "; neither this row nor any after it was judged"
@@ -33,11 +44,11 @@ def quoted(text):
 
 def unread(row, cell, words, name="", result="unreadable"):
     """The answer to a row that was not judged, and what is said of it."""
-    return f"{row},{name},{result},,,{cell},{quoted(words)}" + "," * 29, f"rembilung: row {row}, {result}: {words}"
+    return f"{row},{name},{result},,,{cell},{quoted(words)}" + NOT_JUDGED, f"rembilung: row {row}, {result}: {words}"
 
 
 def refused(row, refusal, place, cell, words, name=""):
-    return (f"{row},{name},refused,{refusal},{place},{cell},{quoted(words)}" + "," * 29,
+    return (f"{row},{name},refused,{refusal},{place},{cell},{quoted(words)}" + NOT_JUDGED,
             f"rembilung: row {row}, refused {refusal} {place}: {words}")
 
 
@@ -57,6 +68,7 @@ def sums(rows, passing=0, failing=0, checks=(), refusals=(), unreadable=0, more=
 
 
 GROUND = (11, "pole force against what the ground under the pad bears")
+HEIGHT = (12, "height against the permitted height")
 RANGE = (3, "a number outside its range")
 ONE_J = sums(1, failing=1, checks=[(*GROUND, 1)])
 TWO_J = sums(2, failing=2, checks=[(*GROUND, 2)])
@@ -129,7 +141,9 @@ GOOD = [
     ("a long heading", lines("n" * 100 + "," + HEAD, "x," + J), answers("2,x," + J_DUE), [name_note("A", "n" * 40 + "...")] + ONE_J),
     ("passes, fails, stands at no height", lines(HEAD, PASS, J, SINGLE), answers("2,," + PASS_DUE, "3,," + J_DUE, "4,," + SINGLE_DUE),
      sums(3, 1, 2, [(3, "ledger moment", 1), (5, "slip at the coupler", 1), (7, "pole stability without wind", 1),
-                    (8, "pole stability with wind", 1), (10, "pole force against 40000 N", 1), (*GROUND, 2)])),
+                    (8, "pole stability with wind", 1), (10, "pole force against 40000 N", 1), (*GROUND, 2), (*HEIGHT, 1)])),
+    ("as high as permitted, and a centimetre higher", lines(HEAD, AS_PERMITTED, HIGHER),
+     answers("2,," + AS_PERMITTED_DUE, "3,," + HIGHER_DUE), sums(2, 1, 1, [(*HEIGHT, 1)])),
     ("a row of exactly 65536 bytes", lines("n," + HEAD, "x" * (65536 - len(J.replace(",", ""))) + "," + J),
      answers("2," + "x" * (65536 - len(J.replace(",", ""))) + "," + J_DUE), [name_note("A", "n")] + ONE_J),
     ("1024 columns", lines(HEAD + "," * 999, J + "," * 999), answers("2,," + J_DUE), ONE_J),

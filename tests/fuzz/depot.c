@@ -5,7 +5,7 @@
 #include "status.h"
 #include "table.h"
 
-#define WIDTH 36
+#define WIDTH 38
 
 static Csv csv, answers;
 
