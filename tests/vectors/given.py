@@ -2,6 +2,9 @@
 
 A line `sheet;NAME;ENTRIES` of request-NN.txt is a column sheet for the cases of that file. Every other line that is no comment
 is a case: the word of its call, and the parts after it. A part of no bytes or no numbers is '-'.
+
+The answers in a request's file are those after that request. Since request 5 a report has a line 12, so the reports in the files
+of earlier requests are handed out as `report_since_5` makes them, from what was given alone; the files stay as they are.
 """
 import collections
 import pathlib
@@ -13,8 +16,13 @@ ENTRY_MOST = 65535
 NUMBER_MOST = 2**32 - 1
 # How many numbers a scaffold job has, and a support, whose first is 3.
 NUMBERS, SUPPORT_NUMBERS, SUPPORT = 25, 13, 3
+# Where a scaffold's own height, its number 7, stands among its numbers.
+HEIGHT = 6
 REFUSED = r"refused [1-9][0-9]? [0-9]{1,10}"
 REPORT = r"[0-9a-z]+( [0-9a-z]+)+(\|[0-9a-z]+( [0-9a-z]+)+)+"
+# A report before request 5: eleven checks, the heights of a scaffold, and the rest.
+BEFORE_5 = r"((?:[0-9]+ [012] [0-9]+\|){11})(?:height (none|[0-9]+ [0-9]+)\|)?(wind .*)"
+SUPPORT_LINE_12 = "12 0 0|"
 HEXADECIMAL = r"-|([0-9a-f]{2})+"
 NUMBER_ROW = r"[0-9]{1,10}( [0-9]{1,10})*"
 # The bytes of a book, W*N being the word W N times, and rows, one followed by *N standing N times.
@@ -24,7 +32,7 @@ ROW_RUN = rf"{NUMBER_ROW}( \*[0-9]{{1,4}})?"
 ROWS = rf"-|{ROW_RUN}( / {ROW_RUN})*"
 # Sheet T of document 01.
 T = [max(1000 - 4 * k, 150) for k in range(ENTRIES)]
-# Support S, worked out by hand from clause 5.6, and its report under sheet T; request-02.txt gives the same.
+# Support S, worked out by hand from clause 5.6, and its report under sheet T; request-05.txt gives the same.
 S = [3, 1, 150, 30, 100, 9000, 6000, 300, 1000, 400, 4, 200, 2000]
 S_REPORT = """\
 1 0 0
@@ -38,6 +46,7 @@ S_REPORT = """\
 9 0 0
 10 1 19200
 11 1 19200
+12 0 0
 wind 84 22491
 column 1330
 """
@@ -97,6 +106,26 @@ def row_numbers(text):
 def count_after(first):
     """How many numbers a job file has that begins with this one."""
     return SUPPORT_NUMBERS if first == SUPPORT else NUMBERS
+
+
+def number_at(data, at):
+    """The number that begins at an offset, and the offset after it; nothing where it is damaged."""
+    found = re.compile(rb"[\x80-\xff]{0,4}[\x00-\x7f]").match(data, at)
+    if not found or (len(found.group()) > 1 and found.group()[-1] == 0):
+        return None
+    value = sum((byte % 128) << (7 * k) for k, byte in enumerate(found.group()))
+    return (value, found.end()) if value <= NUMBER_MOST else None
+
+
+def numbers_of_file(data):
+    """The numbers of a job file, or nothing where it is not the numbers that its first asks for, to its end."""
+    row, at = [], 0
+    while at < len(data) and (not row or len(row) < count_after(row[0])):
+        found = number_at(data, at)
+        if found is None:
+            return None
+        row, at = row + [found[0]], found[1]
+    return row if row and len(row) == count_after(row[0]) and at == len(data) else None
 
 
 def packed(entries):
@@ -222,11 +251,40 @@ def answer_in(case, text, form, what):
     return text
 
 
+def is_before_5(case):
+    """Whether the answers of its file are those before request 5; the names of the files sort by request."""
+    return case.file < "request-05.txt"
+
+
+def lines_since_5(heights, height):
+    """The lines 12 and "height" since request 5, of the heights that the report had and the job's own height."""
+    if heights == "none":
+        return "12 2 0|height none|"
+    stability, permitted = map(int, heights.split(" "))
+    # The paper: "a stability height from 2,535 to 2,599 now gives 2,534 before the caps", of which that of a single row is lower.
+    permitted = min(permitted, 2534) if 2535 <= stability <= 2599 else permitted
+    return f"12 {1 if height <= permitted else 2} {permitted}|height {stability} {permitted}|"
+
+
+def report_since_5(case, report, numbers):
+    """A report that was given before request 5 as it is since; nothing is judged, all follows from the report and the height."""
+    found = re.fullmatch(BEFORE_5, report)
+    if not found or len(numbers) != (NUMBERS if found[2] else SUPPORT_NUMBERS):
+        raise fault_in(case, f"a report before request 5 on a job of {len(numbers)} numbers expected, '{report}' found")
+    checks, heights, rest = found.groups()
+    return checks + (lines_since_5(heights, numbers[HEIGHT]) if heights else SUPPORT_LINE_12) + rest
+
+
+def answer_since_5(case, answer, numbers):
+    """An answer with room enough, as it is since request 5."""
+    return report_since_5(case, answer, numbers) if is_before_5(case) and not answer.startswith("refused ") else answer
+
+
 def verdict_of(case):
     """The case of a line verdict;SHEET;NUMBERS;ANSWER."""
-    name, numbers, answer = parts_of(case, "SHEET;NUMBERS;ANSWER")
-    due = answer_in(case, answer, REPORT, "a report")
-    return Verdict(case.file, case.line, name, sheet_in(case, name), numbers_in(case, numbers), due)
+    name, text, answer = parts_of(case, "SHEET;NUMBERS;ANSWER")
+    numbers, due = numbers_in(case, text), answer_in(case, answer, REPORT, "a report")
+    return Verdict(case.file, case.line, name, sheet_in(case, name), numbers, answer_since_5(case, due, numbers))
 
 
 def writing_of(count):
@@ -244,11 +302,30 @@ def reading_of(case):
     return Reading(case.file, case.line, bytes_in(case, data), answer_in(case, answer, NUMBER_ROW, "numbers"))
 
 
+def too_short_since_5(case, answer, numbers):
+    """Refusal 8 since request 5. A support's report is longer by its line 12; how long a scaffold's is, no length alone says."""
+    if len(numbers) != SUPPORT_NUMBERS:
+        raise fault_in(case, "before request 5 refusal 8 of a scaffold's report does not say how long the report is since")
+    return f"refused 8 {int(answer.rpartition(' ')[2]) + len(SUPPORT_LINE_12)}"
+
+
+def room_and_answer_since_5(case, data, room, answer):
+    """The room grows as the report does, so that what was just enough or a byte short still is; no room stays none."""
+    short = answer.startswith("refused 8 ")
+    if not is_before_5(case) or (answer.startswith("refused ") and not short):
+        return room, answer
+    numbers = numbers_of_file(data) or []
+    due = too_short_since_5(case, answer, numbers) if short else report_since_5(case, answer, numbers)
+    more = len(SUPPORT_LINE_12) if short else len(due) - len(answer)
+    return (room + more if room > 0 else 0), due
+
+
 def file_verdict_of(case):
     """The case of a line verdict_file;SHEET;BYTES;ROOM;ANSWER."""
-    name, data, room, answer = parts_of(case, "SHEET;BYTES;ROOM;ANSWER")
-    due = answer_in(case, answer, REPORT, "a report")
-    return FileVerdict(case.file, case.line, sheet_in(case, name), bytes_in(case, data), room_in(case, room), due)
+    name, text, length, answer = parts_of(case, "SHEET;BYTES;ROOM;ANSWER")
+    data, first = bytes_in(case, text), answer_in(case, answer, REPORT, "a report")
+    room, due = room_and_answer_since_5(case, data, room_in(case, length), first)
+    return FileVerdict(case.file, case.line, sheet_in(case, name), data, room, due)
 
 
 def rows_in(case, text):
