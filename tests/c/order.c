@@ -11,7 +11,7 @@ enum { LENGTH = 1, ENTRY = 2, DAMAGED = 4, EXTRA = 8, RANGE = 16, LAYERS = 32, W
 /* The single row's report under sheet T, as an implementation from the papers gives it. */
 static const char single_report[] =
     "1 1 1051571\n2 1 3413\n3 2 1481264\n4 1 9650\n5 2 8932\n6 1 159\n7 2 46301\n8 2 40177\n9 1 6675\n10 2 46301\n"
-    "11 2 46301\nheight none\nwind 162 78076\ncolumn 1835\n";
+    "11 2 46301\n12 2 0\nheight none\nwind 162 78076\ncolumn 1835\n";
 
 /* A support has neither layers nor a wall. */
 enum { OF_SUPPORT = FAULTS - 1 - LAYERS - WALL };

@@ -15,8 +15,8 @@ const uint32_t longest_job[REMBILUNG_NUMBERS] = {1,   2,    155,  200, 200,  3, 
 
 const uint32_t one_support[REMBILUNG_SUPPORT_NUMBERS] = {3, 1, 150, 30, 100, 9000, 6000, 300, 1000, 400, 4, 200, 2000};
 static const char one_support_report[] =
-    "1 0 0\n2 0 0\n3 0 0\n4 0 0\n5 0 0\n6 0 0\n7 1 19200\n8 1 17940\n9 0 0\n10 1 19200\n11 1 19200\nwind 84 22491\n"
-    "column 1330\n";
+    "1 0 0\n2 0 0\n3 0 0\n4 0 0\n5 0 0\n6 0 0\n7 1 19200\n8 1 17940\n9 0 0\n10 1 19200\n11 1 19200\n12 0 0\n"
+    "wind 84 22491\ncolumn 1330\n";
 
 static uint8_t text_j[300];
 static size_t length_j;

@@ -39,7 +39,7 @@ extern const uint32_t job_j[REMBILUNG_NUMBERS];
 /* An accepted single row of the vectors, and an accepted job whose every number is at its longest. */
 extern const uint32_t single_job[REMBILUNG_NUMBERS], longest_job[REMBILUNG_NUMBERS];
 
-/* The support whose report request-02.txt gives first. */
+/* The one support of request-05.txt. */
 extern const uint32_t one_support[REMBILUNG_SUPPORT_NUMBERS];
 
 Judged judged_j(void);
@@ -65,7 +65,7 @@ Bytes sheet_bytes(const Sheet *sheet);
 void set_entry(Sheet *sheet, int k, uint32_t thousandths);
 uint32_t entry_of(const Sheet *sheet, int k);
 /* J's report, from the file that has the papers' text: document 01's, with heights and column as request 1 of document 02
- * has them. */
+ * has them, and line 12 as request 5 has it. */
 void read_report_j(const char *path);
 Bytes report_j(void);
 

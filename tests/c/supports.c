@@ -8,7 +8,7 @@
 /* Worked out by hand: every figure at its most digits, so the report has the greatest length that the header gives. */
 static const uint32_t longest[REMBILUNG_SUPPORT_NUMBERS] = {3, 1, 200, 100, 200, 60000, 60000, 2000, 4000, 2000, 5, 2000, 10000};
 static const char longest_report[] =
-    "1 0 0\n2 0 0\n3 0 0\n4 0 0\n5 0 0\n6 0 0\n7 2 156000\n8 2 143400\n9 0 0\n10 2 156000\n11 1 156000\n"
+    "1 0 0\n2 0 0\n3 0 0\n4 0 0\n5 0 0\n6 0 0\n7 2 156000\n8 2 143400\n9 0 0\n10 2 156000\n11 1 156000\n12 0 0\n"
     "wind 11200 10662400\ncolumn 2540\n";
 
 /* No number of these is 3, though the low bits of most are those of 3. */

@@ -10,7 +10,8 @@ from given import S, S_REPORT, T, groups, job_file, packed
 # job J, its fields by number from 1
 J = [1, 1, 105, 150, 180, 2, 3000, 3, 4, 2, 3000, 5000, 0, 300, 300, 1000, 1, 200, 1, 240, 1, 8000, 4, 200, 2000]
 
-# document 01: the whole report of job J under sheet T; heights and column as request 1 of document 02 has them
+# document 01: the whole report of job J under sheet T; heights and column as request 1 of document 02 has them,
+# line 12 as request 5 has it
 REPORT = """1 1 477521
 2 1 1584
 3 1 571785
@@ -22,6 +23,7 @@ REPORT = """1 1 477521
 9 1 5953
 10 1 20093
 11 2 20093
+12 1 3173
 height 3277 3173
 wind 42 24291
 column 1974
