@@ -1,4 +1,4 @@
-/* The whole call in plain C, from document 01 and requests 1 and 2 of document 02 as docs/DECISIONS.md reads them: what the
+/* The whole call in plain C, from document 01 and requests 1, 2 and 5 of document 02 as docs/DECISIONS.md reads them: what the
  * library is measured against.
  *
  * Whole numbers throughout, each formula cleared of its fractions. Lengths are in cm, as in the job. The stability height
@@ -8,9 +8,10 @@
 
 #include <string.h>
 
-enum { SUPPORT_NUMBERS = 13, ENTRIES = 251, SHEET_TENTHS = 2500, CHECKS = 11, TEXT_ROOM = 256 };
+enum { SUPPORT_NUMBERS = 13, ENTRIES = 251, SHEET_TENTHS = 2500, CHECKS = 12, TEXT_ROOM = 256 };
 enum { SUPPORT = 3, CLOSED_WALL = 1 };
 enum { STRENGTH = 205, ELASTICITY = 206000, HEIGHT_MOST = 6000, NO_HEIGHT = -1, NO_LINE = -2 };
+enum { REDUCED_FROM = 2600, REDUCED_FIRST = 2534 };
 
 typedef struct {
     uint32_t kind, tube, step, overhang, bay, dead, live, wind, height_factor, shape, soil, ground, pad;
@@ -214,10 +215,16 @@ static int stability_height(const Job *j, const Tube *tube, const Loads *loads, 
     return calm < windy ? calm : windy;
 }
 
-/* 5.3.7, then the family's greatest. */
+/* 5.3.7 reduces from 2,600 on, to 2,534 there; a lower stability height is permitted no more than that. */
+static int reduced_height(int stability) {
+    if (stability >= REDUCED_FROM)
+        return (int)(100000LL * stability / (100000 + stability));
+    return stability < REDUCED_FIRST ? stability : REDUCED_FIRST;
+}
+
+/* Up to the family's greatest; 0 where the pole stands at no height. */
 static int permitted_height(const Job *j, int stability) {
-    int reduced = stability < 2600 ? stability : (int)(100000LL * stability / (100000 + stability));
-    int most = j->family == DOUBLE_ROW ? 5000 : 2400;
+    int reduced = stability == NO_HEIGHT ? 0 : reduced_height(stability), most = j->family == DOUBLE_ROW ? 5000 : 2400;
     return reduced < most ? reduced : most;
 }
 
@@ -236,6 +243,7 @@ static void judge(const uint8_t *sheet, const Job *j, Judgement *g) {
     check_tie(j, g);
     g->stability = stability_height(j, tube, &loads, phi, g->moment);
     g->permitted = permitted_height(j, g->stability);
+    set(g, 12, (uint64_t)g->permitted, (int)j->height <= g->permitted);
 }
 
 /* Clause 5.6: the checks of a pole's force alone. */
