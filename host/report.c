@@ -20,6 +20,9 @@ const char *const check_names[CHECKS] = {
     "height against the permitted height",
 };
 
+/* The check whose figure is the permitted height of the line "height": 0 with "height none", and of a support. */
+enum { HEIGHT_CHECK = 12 };
+
 /* What is still to be read; once good is 0, nothing more is. */
 typedef struct {
     const char *at;
@@ -85,7 +88,6 @@ int read_report(const uint8_t *bytes, size_t length, const Kind *kind, Report *r
     report->moment = take_number(&rest, '\n');
     take_word(&rest, "column ");
     report->slenderness_tenths = take_number(&rest, '\n');
-    /* Line 12 shows the permitted height of the line "height": 0 with "height none", and of a support. */
     return rest.good && rest.left == 0 && report->figures[HEIGHT_CHECK - 1] == report->permitted;
 }
 

@@ -9,8 +9,6 @@
 
 #define CHECKS 12
 enum { NOT_DUE = 0, PASSES = 1, FAILS = 2 };
-/* The check whose figure the line "height" shows too, as the permitted height. */
-enum { HEIGHT_CHECK = 12 };
 
 typedef struct {
     uint32_t verdicts[CHECKS]; /* of check k at k - 1 */
