@@ -9,6 +9,7 @@ mod hand_books;
 mod inputs;
 mod marked;
 mod marked_books;
+mod marked_heights;
 mod marked_supports;
 mod options;
 mod paper;

@@ -44,10 +44,11 @@ const ABOVE_250: Support = Fields([3, 1, 200, 100, 90, 5_000, 3_000, 0, 1_000, 1
 /// By 7,320 / 250² = 0.11712 the pole would bear 11,740.7.
 const AT_250: Support = Fields([3, 1, 195, 100, 90, 12_530, 0, 0, 1_000, 1_000, 5, 500, 1_000]);
 
-/// The report of a support, from its lines 7, 8, 10 and 11 and the last two.
+/// The report of a support, from its lines 7, 8, 10 and 11 and the last two; check 12 shows 0 as 1 to 6 and 9 do.
 fn report([seven, eight, ten, eleven, wind, column]: [&str; 6]) -> Option<Result<String, (u64, u64)>> {
     let none = "1 0 0\n2 0 0\n3 0 0\n4 0 0\n5 0 0\n6 0 0\n";
-    Some(Ok(format!("{none}7 {seven}\n8 {eight}\n9 0 0\n10 {ten}\n11 {eleven}\nwind {wind}\ncolumn {column}\n")))
+    let due = format!("7 {seven}\n8 {eight}\n9 0 0\n10 {ten}\n11 {eleven}\n12 0 0\n");
+    Some(Ok(format!("{none}{due}wind {wind}\ncolumn {column}\n")))
 }
 
 fn judged() -> Cases {

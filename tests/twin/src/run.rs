@@ -3,7 +3,8 @@
 use crate::call::Call;
 use crate::compare::{Answer, both};
 use crate::coverage::Table;
-use crate::demand3::{heights_fault, pair_fault};
+use crate::demand3::{heights_fault, job, pair_fault};
+use crate::inputs::heights::{pair_cell, report_cell};
 use crate::inputs::required::refusal_cell;
 use crate::inputs::{Lists, Planned, Relation, Turn, block, block_length};
 use crate::paper::file::{self, Content};
@@ -103,15 +104,23 @@ fn take(turn: &Turn, first: u64, found: &Found, table: &mut Table, scans: &mut u
             scan_fault(&planned.call, &report).into_iter().for_each(|text| found.add(number, text));
         }
     }
-    let fault = match turn.relation {
-        Relation::Nothing => None,
-        Relation::Pair if reports.len() == 2 => pair_fault(&reports[0].1, &reports[1].1).map(|fault| ("--pair", fault)),
-        Relation::Pair => Some(("--pair", "pair: one of the two was not accepted".to_string())),
-        Relation::Heights => heights_fault(&reports).map(|fault| ("--heights", fault)),
-    };
-    if let Some((option, fault)) = fault {
+    if let Some((option, fault)) = related(turn.relation, &reports, table) {
         let words: Vec<String> = turn.calls.iter().map(|planned| planned.call.to_string()).collect();
         found.add(first, format!("{fault}\n  again: {option} {}", words.join(" ")));
+    }
+}
+
+/// What has to hold among the reports of a turn and does not, with the option by which it is tried again.
+fn related(relation: Relation, reports: &[(&Call, Report)], table: &mut Table) -> Option<(&'static str, String)> {
+    match (relation, reports) {
+        (Relation::Nothing, _) => None,
+        (Relation::Pair, [(call, first), (_, second)]) => {
+            let cell = job(call).map(|job| pair_cell(&job, [first, second]));
+            cell.into_iter().for_each(|cell| table.count(cell));
+            pair_fault(first, second).map(|fault| ("--pair", fault))
+        }
+        (Relation::Pair, _) => Some(("--pair", "pair: one of the two was not accepted".to_string())),
+        (Relation::Heights, _) => heights_fault(reports).map(|fault| ("--heights", fault)),
     }
 }
 
@@ -139,6 +148,9 @@ fn count(planned: &Planned, library: &Answer, table: &mut Table) -> Option<Repor
         if expect.is_met(library, report.as_ref()) {
             table.count(cell);
         }
+    }
+    if let Some((report, job)) = report.zip(job(&planned.call)) {
+        table.count(report_cell(&job, &report));
     }
     if library.refusal() != 0 {
         table.count(refusal_cell(kind(&planned.call), library.refusal(), library.place()));

@@ -28,7 +28,7 @@ pub trait AnyJob {
 
 impl AnyJob for Job {
     const FILE_MOST: u32 = 42;
-    const REPORT_MOST: u32 = 168;
+    const REPORT_MOST: u32 = 178;
 
     fn accept(&self) -> Result<(), Refusal> {
         job::accept(self)
@@ -61,7 +61,7 @@ impl AnyJob for Job {
 
 impl AnyJob for Support {
     const FILE_MOST: u32 = 24;
-    const REPORT_MOST: u32 = 120;
+    const REPORT_MOST: u32 = 127;
 
     fn accept(&self) -> Result<(), Refusal> {
         support::accept(self)

@@ -92,7 +92,7 @@ pub fn sheet_length(random: &mut Random, _: &Lists, turn: u64) -> Turn {
     let mut sheet = to_bytes(&valid(random));
     sheet.resize(length, 0);
     let (job, fill) = (any_accepted(random), random.next());
-    let call = Call::Verdict { sheet, file: files::whole(&job), report: 170, fill };
+    let call = Call::Verdict { sheet, file: files::whole(&job), report: 180, fill };
     let expect = if length == 502 { Expect::Success } else { Expect::Refusal(1, length as u64) };
     single(call, vec![(cell("length of a sheet", [length as u32, 0, 0, 0]), expect)])
 }
@@ -102,7 +102,7 @@ pub fn filed(random: &mut Random, file: Vec<u8>, reads: bool) -> Call {
     let fill = random.next();
     match reads {
         true => Call::Read { file, fill },
-        false => Call::Verdict { sheet: to_bytes(&valid(random)), file, report: 170, fill },
+        false => Call::Verdict { sheet: to_bytes(&valid(random)), file, report: 180, fill },
     }
 }
 
@@ -162,11 +162,11 @@ pub fn order_cell(kind: usize, first: u64, later: u64) -> Cell {
     cell("order of refusals", [kind as u32, first as u32, later as u32, 0])
 }
 
-/// Report buffers of 0 to 180 bytes; every fourth is exactly long enough or one byte too short.
+/// Report buffers of 0 to 190 bytes; every fourth is exactly long enough or one byte too short.
 pub fn report_buffer(random: &mut Random, _: &Lists, turn: u64) -> Turn {
     let (job, sheet, fill) = (any_accepted(random), valid(random), random.next());
     let needed = job.report(&Sheet(sheet)).len();
-    let (length, cells) = lent_length(turn, 0, needed, 181);
+    let (length, cells) = lent_length(turn, 0, needed, 191);
     single(Call::Verdict { sheet: to_bytes(&sheet), file: files::whole(&job), report: length, fill }, cells)
 }
 

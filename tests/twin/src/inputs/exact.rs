@@ -3,11 +3,12 @@
 use super::columns::{self, Column, Found, job_of, place, spacings};
 use super::jobs::accepted;
 use super::sheets::{neighbours, through, valid};
-use super::tuned::{Aim, bisect, near_capacity};
+use super::tuned::{AIMS, Aim, bisect, near_capacity, sheet_for};
 use crate::paper::checks::check;
 use crate::paper::constants::{STRENGTH, Tube, tube};
 use crate::paper::figures;
 use crate::paper::fraction::{Fraction, d};
+use crate::paper::heights::reported;
 use crate::paper::job::{Fields, Job};
 use crate::paper::sheet::Sheet;
 use crate::random::Random;
@@ -30,7 +31,7 @@ pub struct Atlas {
 
 /// Searches everything; check 6 and a face of exactly 30 m² are shown to have no equality.
 pub fn search() -> Atlas {
-    let exact = (0..44).map(|turn| exact_jobs(Aim::number(turn))).collect();
+    let exact = (0..AIMS).map(|turn| exact_jobs(Aim::number(turn))).collect();
     let (featured, joint, pairs) = (columns::featured(), columns::beside_joint(), columns::pairs());
     Atlas { exact, featured, joint, pairs, windy: windy(), faces: faces() }
 }
@@ -117,6 +118,7 @@ pub fn at_limit(random: &mut Random, aim: Aim) -> Option<(Job, Sheet)> {
             1 | 3 | 5 => by_live_load(random, aim),
             7 | 8 | 10 | 11 => by_nets(random, aim),
             9 => by_tie_capacity(random, aim),
+            12 => by_height(random, aim),
             _ => None,
         }?;
         aim.stands_at_limit(&job, &sheet).then_some((job, sheet))
@@ -149,6 +151,14 @@ fn by_tie_capacity(random: &mut Random, aim: Aim) -> Option<(Job, Sheet)> {
     let job = accepted(random, aim.family, aim.tube, enclosure);
     let force = u32::try_from(figures::tie_force(&job)).ok()?;
     (8_000..=100_000).contains(&force).then(|| (job.with(22, force), Sheet(valid(random))))
+}
+
+fn by_height(random: &mut Random, aim: Aim) -> Option<(Job, Sheet)> {
+    let enclosure = random.within(1, 3);
+    let job = accepted(random, aim.family, aim.tube, enclosure);
+    let sheet = sheet_for(random, &job, aim.check);
+    let (_, permitted) = reported(&job, &sheet)?;
+    (permitted > 0).then(|| (job.with(7, permitted), sheet))
 }
 
 fn windy() -> Vec<(bool, Job, Sheet)> {

@@ -25,7 +25,7 @@ pub fn call(random: &mut Random, kind: usize, faults: &[u64]) -> Call {
     let has = |fault: u64| faults.contains(&fault);
     let job = job(random, has(3), has(4), has(5));
     let fill = random.next();
-    let room = if has(8) { random.below(20) } else { 170 };
+    let room = if has(8) { random.below(20) } else { 180 };
     match kind {
         0 => {
             Call::Verdict { sheet: sheet(random, has(1), has(2)), file: file(random, &job, faults), report: room, fill }

@@ -1,15 +1,15 @@
-//! The turns on accepted jobs: uniform, tuned, special heights, and demand 3's pairs and heights.
+//! The turns on accepted jobs: uniform, tuned, and demand 3's pairs and heights.
 
 use super::any_job::AnyJob;
 use super::exact::at_limit as job_at_limit;
 use super::jobs::{accepted, any_accepted, bounds, heavier};
 use super::sheets::{Entries, valid};
-use super::tuned::{Aim, Edge, around, at_stability, bisect, edge, is_between, near_capacity};
+use super::tuned::{AIMS, Aim, Edge, around, bisect, edge, is_between, near_capacity};
 use super::{Lists, Planned, Relation, Turn, files, verdict};
 use crate::call::Call;
 use crate::coverage::{Cell, Expect, cell};
 use crate::paper::checks::check;
-use crate::paper::heights::stability as stability_height;
+use crate::paper::heights::reported;
 use crate::paper::job::Fields;
 use crate::paper::sheet::Sheet;
 use crate::random::Random;
@@ -166,7 +166,7 @@ pub fn exact(random: &mut Random, lists: &Lists, turn: u64) -> Turn {
         let cells = vec![(windy_cell(job.field(1), job.field(2), *fine), Expect::Verdict(8, 1))];
         return Turn { calls: vec![judged(random, job, &sheet.0, cells)], relation: Relation::Nothing };
     }
-    let number = (turn - turn / 10) % 44;
+    let number = (turn - turn / 10) % AIMS;
     let (jobs, aim) = (&lists.atlas.exact[number as usize], Aim::number(number));
     if jobs.is_empty() {
         return Turn { calls: vec![plain(random)], relation: Relation::Nothing };
@@ -182,24 +182,6 @@ pub fn windy_cell(family: u32, tube: u32, fine: bool) -> Cell {
 
 pub fn exact_cell(aim: Aim) -> Cell {
     cell("equality before rounding", [aim.check as u32, aim.family, aim.tube, 0])
-}
-
-/// The stability heights that are aimed at; none comes first.
-pub const HEIGHTS: [Option<u32>; 6] = [None, Some(0), Some(2_599), Some(2_600), Some(2_601), Some(6_000)];
-
-pub fn stability(random: &mut Random, _: &Lists, turn: u64) -> Turn {
-    let (height, family) = (HEIGHTS[turn as usize % 6], 1 + (turn / 6 % 2) as u32);
-    let planned = match at_stability(random, family, height) {
-        Some((job, sheet)) => {
-            judged(random, &job, &sheet.0, vec![(stability_cell(family, height), Expect::Height(height))])
-        }
-        None => plain(random),
-    };
-    Turn { calls: vec![planned], relation: Relation::Nothing }
-}
-
-pub fn stability_cell(family: u32, height: Option<u32>) -> Cell {
-    cell("stability height", [family, u32::from(height.is_some()), height.unwrap_or(0), 0])
 }
 
 /// Check 8's due boundary: wind, enclosure and the face of a tie, each on both sides.
@@ -233,15 +215,19 @@ pub fn limit_pair_cell(aim: Aim, order: u32) -> Cell {
     cell("pair at a limit", [aim.check as u32, aim.family, aim.tube, order])
 }
 
-/// Demand 3: a job at its stability height and one above it, and at any height, where field 7 allows them.
+/// Demand 3: a job at its stability height and one above it, and at any height or at the permitted height or one above
+/// it, where field 7 allows them.
 pub fn heights(random: &mut Random, _: &Lists, turn: u64) -> Turn {
     let (family, tube, enclosure) = (1 + (turn % 2) as u32, random.within(1, 2), random.within(1, 3));
     let mut job = accepted(random, family, tube, enclosure);
     let (height, share) = (job.field(7), random.within(1_000, 1_200));
     let sheet = near_capacity(random, &job, height, share).unwrap_or_else(|| Sheet(valid(random)));
-    let greatest = stability_height(&job, &sheet);
+    let heights = reported(&job, &sheet);
+    let (greatest, permitted) =
+        (heights.map(|(stability, _)| stability), heights.map_or(0, |(_, permitted)| permitted));
     let highest = bounds(&job, 7).1;
-    job = job.with(7, random.within(1, highest));
+    let first = [random.within(1, highest), permitted, permitted + 1][turn as usize / 2 % 3];
+    job = job.with(7, first.clamp(1, highest));
     let at = greatest.filter(|height| (1..=highest).contains(height));
     let above = greatest.map_or(1, |height| height + 1);
     let mut calls = vec![judged(random, &job, &sheet.0, Vec::new())];

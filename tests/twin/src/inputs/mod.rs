@@ -11,6 +11,7 @@ pub mod ends;
 pub mod exact;
 pub mod faults;
 pub mod files;
+pub mod heights;
 pub mod jobs;
 pub mod kinds;
 pub mod required;
@@ -61,6 +62,9 @@ pub struct Lists {
     pub support_ends: Vec<ends::End>,
     /// Supports and sheets at the very limit of check 8 in wind; true where φ is no thousandth.
     pub windy_supports: Vec<(bool, Support, Sheet)>,
+    /// What to aim at for every cell of check 12, by one job and by two.
+    pub alone: heights::Ways<heights::Way>,
+    pub together: heights::Ways<[heights::Way; 2]>,
 }
 
 impl Lists {
@@ -71,6 +75,8 @@ impl Lists {
             support_columns: support_columns::search(),
             support_ends: supports::ends(),
             windy_supports: support_limits::windy(),
+            alone: heights::ways_alone(),
+            together: heights::ways_together(),
         }
     }
 }
@@ -82,16 +88,18 @@ struct Kind {
     calls: usize,
 }
 
-const KINDS: [Kind; 65] = [
+const KINDS: [Kind; 67] = [
     Kind { make: kinds::uniform, turns: 140, calls: 1 },
     Kind { make: damage::wild, turns: 24, calls: 1 },
     Kind { make: damage::end, turns: 90, calls: 1 },
     Kind { make: damage::contradiction, turns: 12, calls: 1 },
     Kind { make: kinds::tuned, turns: 66, calls: 4 },
     Kind { make: kinds::deflection, turns: 7, calls: 2 },
-    Kind { make: kinds::at_limit, turns: 44, calls: 1 },
+    Kind { make: kinds::at_limit, turns: 48, calls: 1 },
     Kind { make: kinds::exact, turns: 10, calls: 1 },
-    Kind { make: kinds::stability, turns: 24, calls: 1 },
+    Kind { make: heights::stability, turns: 24, calls: 1 },
+    Kind { make: heights::alone, turns: 16, calls: 1 },
+    Kind { make: heights::pair, turns: 12, calls: 2 },
     Kind { make: kinds::due, turns: 12, calls: 1 },
     Kind { make: slender::column, turns: 36, calls: 1 },
     Kind { make: slender::cliff, turns: 16, calls: 1 },
@@ -104,7 +112,7 @@ const KINDS: [Kind; 65] = [
     Kind { make: damage::faults, turns: 60, calls: 1 },
     Kind { make: damage::report_buffer, turns: 30, calls: 1 },
     Kind { make: damage::file_buffer, turns: 12, calls: 1 },
-    Kind { make: kinds::pair, turns: 44, calls: 2 },
+    Kind { make: kinds::pair, turns: 48, calls: 2 },
     Kind { make: kinds::heights, turns: 20, calls: 3 },
     Kind { make: support_kinds::uniform, turns: 50, calls: 1 },
     Kind { make: support_damage::wild, turns: 10, calls: 1 },
@@ -141,7 +149,7 @@ const KINDS: [Kind; 65] = [
     Kind { make: book_damage::faults, turns: 2, calls: 1 },
     Kind { make: book_damage::writing_faults, turns: 1, calls: 1 },
     Kind { make: book_damage::shaken, turns: 4, calls: 1 },
-    Kind { make: book_rows::one_bad, turns: 3, calls: 1 },
+    Kind { make: book_rows::one_bad, turns: 4, calls: 1 },
     Kind { make: book_rows::far_down, turns: 1, calls: 1 },
     Kind { make: book_rows::bad_in_short, turns: 1, calls: 1 },
     Kind { make: book_rows::alike, turns: 1, calls: 1 },

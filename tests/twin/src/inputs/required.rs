@@ -6,13 +6,14 @@ use super::book_rows::*;
 use super::columns::Found;
 use super::damage::{ENTRY_FAULTS, end_cell, entry_cell, entry_fault, order_cell};
 use super::ends::CONTRADICTIONS;
+use super::heights::{AIMED, aimed, stability_cell};
 use super::kinds::*;
 use super::slender::*;
 use super::support_damage::{FIRST_NUMBERS, first_number_cell, first_number_key, most_cell};
 use super::support_kinds::{accepted_cell, still_cell};
-use super::support_limits::{AIMS, STILL, aim};
+use super::support_limits::{self, STILL, aim};
 use super::supports::{ANY_FIELD, FAMILY, LOADS_AND_GROUND};
-use super::tuned::Aim;
+use super::tuned::{AIMS, Aim};
 use super::{Lists, faults, support_damage, support_kinds};
 use crate::coverage::{Cell, cell};
 use crate::round_trip::round_trip_cell;
@@ -29,7 +30,7 @@ pub fn cells(lists: &Lists) -> Vec<Cell> {
         cells.extend((0..125).map(|number| cell("broken number", [number / 5, number % 5, reads, 25])));
         cells.extend((0..43).map(|cut| cell("cut or lengthened file", [cut, reads, 25, 0])));
     }
-    cells.extend((0..181).map(|length| cell("length of a buffer", [0, length, 0, 0])));
+    cells.extend((0..191).map(|length| cell("length of a buffer", [0, length, 0, 0])));
     cells.extend((0..51).map(|length| cell("length of a buffer", [1, length, 0, 0])));
     cells.extend((0..4).map(|number| cell("buffer that just fits", [number / 2, number % 2, 0, 0])));
     cells.extend((0..4).map(|number| cell("own height", [1 + number / 2, number % 2, 0, 0])));
@@ -61,7 +62,7 @@ fn supports(lists: &Lists) -> Vec<Cell> {
         cells.extend((0..65).map(|number| cell("broken number", [number / 5, number % 5, reads, 13])));
         cells.extend((0..25).map(|cut| cell("cut or lengthened file", [cut, reads, 13, 0])));
     }
-    cells.extend((0..133).map(|length| cell("length of a buffer", [2, length, 0, 0])));
+    cells.extend((0..140).map(|length| cell("length of a buffer", [2, length, 0, 0])));
     cells.extend((0..31).map(|length| cell("length of a buffer", [3, length, 0, 0])));
     cells.extend((0..4).map(|number| cell("buffer that just fits", [2 + number / 2, number % 2, 0, 0])));
     cells.extend((0..4).map(|number| most_cell(number / 2, number % 2)));
@@ -70,7 +71,7 @@ fn supports(lists: &Lists) -> Vec<Cell> {
 
 fn support_limits(lists: &Lists) -> Vec<Cell> {
     let mut cells = Vec::new();
-    for aim in (0..AIMS).map(aim) {
+    for aim in (0..support_limits::AIMS).map(aim) {
         cells.extend([LAST_PASS, FIRST_FAIL, EQUAL].map(|side| limit_cell(aim, side)));
         cells.extend([LOADS_AND_GROUND, ANY_FIELD].map(|order| limit_pair_cell(aim, order)));
         if matches!(aim.check, 7 | 8) {
@@ -92,7 +93,7 @@ fn support_limits(lists: &Lists) -> Vec<Cell> {
 // Checks 2, 4 and 6 compare unrounded figures, which are never equal to their limits: see the searches in marked.rs.
 fn limits(lists: &Lists) -> Vec<Cell> {
     let mut cells = Vec::new();
-    for turn in 0..44 {
+    for turn in 0..AIMS {
         let aim = Aim::number(turn);
         cells.extend([limit_cell(aim, LAST_PASS), limit_cell(aim, FIRST_FAIL)]);
         cells.push(limit_pair_cell(aim, 0));
@@ -106,7 +107,8 @@ fn limits(lists: &Lists) -> Vec<Cell> {
             cells.push(exact_cell(aim));
         }
     }
-    cells.extend((0..12).map(|number| stability_cell(1 + number / 6, HEIGHTS[number as usize % 6])));
+    cells.extend((0..AIMED).map(aimed).map(|(family, height)| stability_cell(family, height)));
+    cells.extend(lists.alone.keys().chain(lists.together.keys()));
     cells.extend((0..12).map(|number| cell("due boundary", [350 + number % 2, 1 + number / 2 % 3, number / 6, 0])));
     cells.extend((0..8).map(|number| windy_cell(1 + number % 2, 1 + number / 2 % 2, number / 4 == 1)));
     for (check, family, governs) in DEFLECTIONS {

@@ -1,6 +1,6 @@
 //! The turns on the column slenderness: its tenths, the line between entries, the joint at 250, and pairs of columns.
 
-use super::columns::{ACROSS, ALIKE, Found, place, tenths, with_column};
+use super::columns::{ACROSS, ALIKE, place, tenths, with_column};
 use super::jobs::{accepted, heavier};
 use super::kinds::{both_sides, judged, plain};
 use super::sheets::{ending, misread};
@@ -12,9 +12,10 @@ use crate::paper::heights::stability;
 use crate::paper::job::Job;
 use crate::paper::sheet::Sheet;
 use crate::random::Random;
+use std::collections::BTreeMap;
 
 /// What was found for one key after another.
-pub fn in_turn<T>(found: &Found<T>, turn: u64) -> ([u32; 3], &[T]) {
+pub fn in_turn<K: Copy, T>(found: &BTreeMap<K, Vec<T>>, turn: u64) -> (K, &[T]) {
     let (key, all) = found.iter().nth(turn as usize % found.len()).expect("the searches found some");
     (*key, all)
 }

@@ -110,7 +110,7 @@ fn faulty_call(random: &mut Random, kind: usize, faults: &[u64]) -> Call {
     let support = any_accepted(random);
     let support = if has(3) { outside(random, support) } else { support };
     // No support's file or report is shorter than 13 bytes.
-    let (room, fill) = (if has(8) { random.below(13) } else { 120 }, random.next());
+    let (room, fill) = (if has(8) { random.below(13) } else { 127 }, random.next());
     match kind {
         0 => {
             let sheet = faulty_sheet(random, has(1), has(2));
@@ -127,10 +127,10 @@ fn outside(random: &mut Random, support: Support) -> Support {
     support.with(field, range(field).start().checked_sub(1).filter(|_| random.once_in(2)).unwrap_or(beyond))
 }
 
-/// Report buffers of 0 to 132 bytes; every fourth is exactly long enough or one byte too short.
+/// Report buffers of 0 to 139 bytes; every fourth is exactly long enough or one byte too short.
 pub fn report_buffer(random: &mut Random, _: &Lists, turn: u64) -> Turn {
     let (support, sheet, fill) = (any_accepted(random), valid(random), random.next());
-    let (length, cells) = lent_length(turn, 2, support.report(&Sheet(sheet)).len(), 133);
+    let (length, cells) = lent_length(turn, 2, support.report(&Sheet(sheet)).len(), 140);
     single(Call::Verdict { sheet: to_bytes(&sheet), file: files::whole(&support), report: length, fill }, cells)
 }
 
@@ -146,7 +146,7 @@ pub fn most(random: &mut Random, _: &Lists, turn: u64) -> Turn {
     let (what, short, support) = (turn % 2, turn / 2 % 2, longest(random));
     let (sheet, fill) = (to_bytes(&valid(random)), random.next());
     let (call, most) = match what {
-        0 => (Call::Verdict { sheet, file: files::whole(&support), report: 120 - short as usize, fill }, 120),
+        0 => (Call::Verdict { sheet, file: files::whole(&support), report: 127 - short as usize, fill }, 127),
         _ => (support.write(24 - short as usize, fill), 24),
     };
     let expect = if short == 1 { Expect::Refusal(8, most) } else { Expect::Length(most) };

@@ -23,7 +23,7 @@ pub fn any_accepted(random: &mut Random) -> Support {
     accepted(random, tube)
 }
 
-/// A support whose file has 24 bytes and whose report has 120, the most that there are.
+/// A support whose file has 24 bytes and whose report has 127, the most that there are.
 pub fn longest(random: &mut Random) -> Support {
     let least = [3, 1, 200, 0, 200, 45_000, 40_000, 1_900, 4_000, 2_000, 1, 128, 128];
     let between =

@@ -11,7 +11,7 @@ use crate::paper::sheet::Sheet;
 use crate::random::Random;
 
 /// The fields by which each check is brought to its limit.
-const FIELDS: [&[usize]; 11] = [
+const FIELDS: [&[usize]; 12] = [
     &[11, 4, 3],
     &[11, 4, 3],
     &[11, 4, 3],
@@ -23,7 +23,11 @@ const FIELDS: [&[usize]; 11] = [
     &[22, 15, 16, 18, 4, 5],
     &[13, 7, 14, 12, 4, 9, 10, 3],
     &[24, 25, 13, 7, 14, 12, 4],
+    &[7, 7, 13, 14, 12, 15, 4, 5, 9, 10],
 ];
+
+/// As many aims as there are of scaffold jobs: each check in each family and tube.
+pub const AIMS: u64 = 48;
 
 /// Two jobs a single step of one field apart: the check passes for one and fails for the other.
 pub struct Edge<const N: usize = 25> {
@@ -42,9 +46,9 @@ pub struct Aim {
 }
 
 impl Aim {
-    /// The 44 aims of scaffold jobs in turn.
+    /// The aims of scaffold jobs in turn.
     pub fn number(turn: u64) -> Aim {
-        let (check, rest) = (turn % 11, turn / 11);
+        let (check, rest) = (turn % 12, turn / 12);
         Aim { check: 1 + check as usize, family: 1 + (rest % 2) as u32, tube: 1 + (rest / 2 % 2) as u32 }
     }
 
@@ -123,14 +127,14 @@ where
     [edge.passing.with(edge.field, before), edge.passing, edge.failing, edge.failing.with(edge.field, behind)]
 }
 
-// Checks 7 and 8 need a sheet under which the job stands near what its pole bears.
+// Checks 7, 8 and 12 need a sheet under which the job stands near what its pole bears.
 pub fn sheet_for<const N: usize>(random: &mut Random, job: &Fields<N>, check: usize) -> Sheet
 where
     Fields<N>: AnyJob,
 {
     let share = random.within(900, 1500);
     match check {
-        7 | 8 => bearing(random, job, job.pole_force(), share).unwrap_or_else(|| Sheet(valid(random))),
+        7 | 8 | 12 => bearing(random, job, job.pole_force(), share).unwrap_or_else(|| Sheet(valid(random))),
         _ => Sheet(valid(random)),
     }
 }
@@ -171,9 +175,29 @@ pub fn at_stability(random: &mut Random, family: u32, height: Option<u32>) -> Op
         let job = accepted(random, family, tube, enclosure);
         let share = random.within(1000, 1300);
         let sheet = near_capacity(random, &job.with(13, 2_500), height.unwrap_or(0), share)?;
-        let fails = |job: &Job, sheet: &Sheet| !pole_checks_pass(job, sheet, height.unwrap_or(0));
-        let edge = bisect(&job, sheet, 13, fails)?;
-        let job = if height.is_some() { edge.passing } else { edge.failing };
-        (stability(&job, &edge.sheet) == height).then_some((job, edge.sheet))
+        Some((with_stability(&job, &sheet, height)?, sheet))
     })
+}
+
+/// Two jobs alike but for the nets S, of the given stability heights, of which the second is no greater.
+pub fn both_at_stability(random: &mut Random, family: u32, heights: [Option<u32>; 2]) -> Option<([Job; 2], Sheet)> {
+    let [first, second] = heights.map(|height| height.unwrap_or(0));
+    (0..200).find_map(|_| {
+        let (tube, enclosure) = (random.within(1, 2), random.within(1, 3));
+        // So light a structure that nets of 5,000 N outweigh the whole fall.
+        let structure = random.within(50, 400_000 / (first - second).max(800));
+        let job = accepted(random, family, tube, enclosure).with(14, structure).with(13, random.within(0, 500));
+        let share = random.within(1000, 1050);
+        let sheet = near_capacity(random, &job, first, share)?;
+        let [first, second] = heights.map(|height| with_stability(&job, &sheet, height));
+        Some(([first?, second?], sheet))
+    })
+}
+
+/// The job with nets by which its stability height is the given one.
+fn with_stability(job: &Job, sheet: &Sheet, height: Option<u32>) -> Option<Job> {
+    let fails = |job: &Job, sheet: &Sheet| !pole_checks_pass(job, sheet, height.unwrap_or(0));
+    let edge = bisect(job, sheet.clone(), 13, fails)?;
+    let job = if height.is_some() { edge.passing } else { edge.failing };
+    (stability(&job, sheet) == height).then_some(job)
 }

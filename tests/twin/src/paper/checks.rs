@@ -1,9 +1,10 @@
-//! The eleven checks: the figure of each, what is compared, and the verdict.
+//! The twelve checks: the figure of each, what is compared, and the verdict.
 //! What 7, 8, 10 and 11 compare stands in functions that take a support's figures too.
 
 use super::constants::{STRENGTH, soil_factor, tube};
 use super::figures;
 use super::fraction::{Fraction, d};
+use super::heights;
 use super::job::Job;
 use super::sheet::Sheet;
 
@@ -27,7 +28,7 @@ impl Check {
     }
 }
 
-/// Check 1 to 11 of a job, with the height H in centimetres given apart from the job.
+/// Check 1 to 12 of a job, with the height H in centimetres given apart from the job.
 pub fn check(number: usize, job: &Job, sheet: &Sheet, height: u32) -> Check {
     match number {
         1 => rounded(figures::transom_moment(job).up(), STRENGTH * tube(job).modulus),
@@ -41,7 +42,8 @@ pub fn check(number: usize, job: &Job, sheet: &Sheet, height: u32) -> Check {
         9 => rounded(figures::tie_force(job), job.number(22)),
         10 => pole_limit(figures::pole_force(job, height)),
         11 => ground(figures::pole_force(job, height), job.field(23), job.number(24), job.number(25)),
-        _ => panic!("checks 1 to 11"),
+        12 => height_limit(height, heights::reported(job, sheet)),
+        _ => panic!("checks 1 to 12"),
     }
 }
 
@@ -97,4 +99,12 @@ pub fn pole_limit(force: i128) -> Check {
 /// N, at most soil factor × strength × pad in newtons: kPa are 1,000 N/m² and cm² are 1/10,000 m².
 pub fn ground(force: i128, soil: u32, strength: Fraction, pad: Fraction) -> Check {
     rounded(force, soil_factor(soil) * (strength * d!(1000)) * (pad / d!(10_000)))
+}
+
+/// The job's height, at most the permitted height, failing when none is reported; the figure is 0 then.
+fn height_limit(height: u32, reported: Option<(u32, u32)>) -> Check {
+    let permitted = reported.map(|(_, permitted)| i128::from(permitted));
+    // None counts as below 0, so that no height is within it.
+    let limit = Fraction::whole(permitted.unwrap_or(-1));
+    Check { due: true, left: Fraction::whole(i128::from(height)), right: limit, figure: permitted.unwrap_or(0) }
 }

@@ -27,16 +27,29 @@ pub fn stability(job: &Job, sheet: &Sheet) -> Option<u32> {
     Some(passes)
 }
 
+/// The stability height and the permitted height, where the pole stands at any height.
+pub fn reported(job: &Job, sheet: &Sheet) -> Option<(u32, u32)> {
+    stability(job, sheet).map(|height| (height, permitted(job, height)))
+}
+
 /// All heights from 0 to 6,000 tried: the greatest that passes, and how many pass.
 pub fn stability_by_scan(job: &Job, sheet: &Sheet) -> (Option<u32>, usize) {
     let passing: Vec<u32> = (0..=6_000).filter(|&height| pole_checks_pass(job, sheet, height)).collect();
     (passing.iter().copied().max(), passing.len())
 }
 
-/// The stability height below 2,600, otherwise Hs / (1 + 0.001 Hs) in metres, down; then at most 5,000 or 2,400.
+/// The permitted height: that before the caps, then at most 5,000 or 2,400.
 pub fn permitted(job: &Job, stability: u32) -> u32 {
-    let reduced = if stability < 2_600 { stability } else { reduced(stability) };
-    reduced.min(if job.is_double_row() { 5_000 } else { 2_400 })
+    before_caps(stability).min(if job.is_double_row() { 5_000 } else { 2_400 })
+}
+
+/// The stability height below 2,535, 2,534 from there to 2,599, otherwise Hs / (1 + 0.001 Hs) in metres, down.
+pub fn before_caps(stability: u32) -> u32 {
+    match stability {
+        ..2_535 => stability,
+        2_535..2_600 => 2_534,
+        _ => reduced(stability),
+    }
 }
 
 fn reduced(stability: u32) -> u32 {

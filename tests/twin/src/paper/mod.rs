@@ -1,4 +1,4 @@
-//! Document 01 with requests 1/14 to 3/14, in its own order and in exact fractions: what the library is compared with.
+//! Document 01 with requests 1/14 to 5/14, in its own order and in exact fractions: what the library is compared with.
 
 pub mod book;
 pub mod calls;

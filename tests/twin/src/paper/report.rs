@@ -1,9 +1,9 @@
-//! The report: eleven lines of checks, then height, wind and column. A support's takes its lines from here.
+//! The report: twelve lines of checks, then height, wind and column. A support's takes its lines from here.
 
 use super::checks::{Check, check};
 use super::figures;
 use super::fraction::Fraction;
-use super::heights::{permitted, stability};
+use super::heights::reported;
 use super::job::Job;
 use super::sheet::Sheet;
 use std::fmt::Write;
@@ -11,18 +11,18 @@ use std::fmt::Write;
 /// The whole report of an accepted job.
 pub fn report(job: &Job, sheet: &Sheet) -> String {
     let mut text = check_lines(|number| check(number, job, sheet, job.field(7)));
-    match stability(job, sheet) {
-        Some(height) => line(&mut text, format_args!("height {} {}", height, permitted(job, height))),
+    match reported(job, sheet) {
+        Some((stability, permitted)) => line(&mut text, format_args!("height {} {}", stability, permitted)),
         None => line(&mut text, format_args!("height none")),
     }
     last_lines(&mut text, figures::wind(job), figures::wind_moment(job), figures::column_tenths(job));
     text
 }
 
-/// Check, verdict and figure of each check from 1 to 11.
+/// Check, verdict and figure of each check from 1 to 12.
 pub fn check_lines(check: impl Fn(usize) -> Check) -> String {
     let mut text = String::with_capacity(200);
-    for number in 1..=11 {
+    for number in 1..=12 {
         let check = check(number);
         line(&mut text, format_args!("{} {} {}", number, check.verdict(), check.figure));
     }

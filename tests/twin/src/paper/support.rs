@@ -114,7 +114,7 @@ fn in_wind(support: &Support, sheet: &Sheet) -> Check {
     checks::stability_in_wind(force, reduced_area(support, sheet), moment, tube(support).modulus)
 }
 
-/// The whole report of an accepted support: eleven lines, "wind", "column"; there is no height line.
+/// The whole report of an accepted support: twelve lines, "wind", "column"; there is no height line.
 pub fn report(support: &Support, sheet: &Sheet) -> String {
     let mut text = check_lines(|number| check(number, support, sheet));
     last_lines(&mut text, wind(support), wind_moment(support), tenths(support));
