@@ -3,7 +3,7 @@
 use crate::inputs::sheets::sheet_t;
 use crate::marked::{Cases, J, case, has_line, judge};
 use crate::paper::heights::permitted;
-use crate::paper::job::Job;
+use crate::paper::job::{Job, range};
 
 pub fn cases() -> Cases {
     [permitted_heights(), reported_heights(), own_heights(), without_height(), strengthened()].concat()
@@ -131,10 +131,13 @@ fn without_height() -> Cases {
 }
 
 /// A stronger scaffold is never allowed less: each height permits at least what the one below it permits.
+/// Field 7 ends at the caps, so that the coverage table has no job above them.
 fn strengthened() -> Cases {
     let rises = |job: Job| (1..=6_000).all(|stability| permitted(&job, stability) >= permitted(&job, stability - 1));
+    let capped = |job: Job| permitted(&job, 6_000) == *range(&job, 7).end();
     vec![
         case("a double row's permitted height never falls", rises(J)),
         case("a single row's permitted height never falls", rises(single(0))),
+        case("no job is higher than its cap", capped(J) && capped(single(0))),
     ]
 }

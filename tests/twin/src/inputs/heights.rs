@@ -1,7 +1,7 @@
 //! The turns on stability height, permitted height and check 12, and the cells that the library's reports fill there.
 
 use super::jobs::bounds;
-use super::kinds::{judged, plain};
+use super::kinds::{Cells, judged, plain};
 use super::slender::in_turn;
 use super::tuned::{at_stability, both_at_stability};
 use super::{Lists, Planned, Relation, Turn};
@@ -12,36 +12,19 @@ use crate::random::Random;
 use crate::reading::Report;
 use std::collections::{BTreeMap, BTreeSet};
 
-/// The stability heights that are aimed at, the ends of each rule and of each cap among them; none comes first.
-pub const HEIGHTS: [Option<u32>; 21] = [
-    None,
-    Some(0),
-    Some(1),
-    Some(1_500),
-    Some(2_399),
-    Some(2_400),
-    Some(2_401),
-    Some(2_533),
-    Some(2_534),
-    Some(2_535),
-    Some(2_536),
-    Some(2_598),
-    Some(2_599),
-    Some(2_600),
-    Some(2_601),
-    Some(4_000),
-    Some(5_263),
-    Some(5_264),
-    Some(5_265),
-    Some(5_999),
-    Some(6_000),
+/// The stability heights that are aimed at beside none: the ends of each rule and of each cap are among them.
+const HEIGHTS: [u32; 20] = [
+    0, 1, 1_500, 2_399, 2_400, 2_401, 2_533, 2_534, 2_535, 2_536, 2_598, 2_599, 2_600, 2_601, 4_000, 5_263, 5_264,
+    5_265, 5_999, 6_000,
 ];
 
-/// As many turns as there are heights to aim at in both families.
-pub const AIMED: u64 = 42;
+/// As many turns as there are heights to aim at, none among them, and in both families.
+const OF_A_FAMILY: u64 = 1 + HEIGHTS.len() as u64;
+pub const AIMED: u64 = 2 * OF_A_FAMILY;
 
 pub fn aimed(turn: u64) -> (u32, Option<u32>) {
-    (1 + (turn / 21 % 2) as u32, HEIGHTS[turn as usize % 21])
+    let place = (turn % OF_A_FAMILY) as usize;
+    (1 + (turn / OF_A_FAMILY % 2) as u32, place.checked_sub(1).map(|place| HEIGHTS[place]))
 }
 
 /// A job of every stability height that is aimed at, about as high as permitted.
@@ -49,6 +32,10 @@ pub fn stability(random: &mut Random, _: &Lists, turn: u64) -> Turn {
     let (family, stability) = aimed(turn);
     let height = random.pick(&own_heights(family, &[stability]));
     let cells = vec![(stability_cell(family, stability), Expect::Height(stability))];
+    standing_at(random, family, (stability, height), cells)
+}
+
+fn standing_at(random: &mut Random, family: u32, (stability, height): Way, cells: Cells) -> Turn {
     let planned = match at_stability(random, family, stability) {
         Some((job, sheet)) => judged(random, &job.with(7, height), &sheet.0, cells),
         None => plain(random),
@@ -68,12 +55,8 @@ pub type Ways<T> = BTreeMap<Cell, Vec<(u32, T)>>;
 
 /// A job on every side of its permitted height.
 pub fn alone(random: &mut Random, lists: &Lists, turn: u64) -> Turn {
-    let (family, (stability, height)) = random.pick(in_turn(&lists.alone, turn).1);
-    let planned = match at_stability(random, family, stability) {
-        Some((job, sheet)) => judged(random, &job.with(7, height), &sheet.0, Vec::new()),
-        None => plain(random),
-    };
-    Turn { calls: vec![planned], relation: Relation::Nothing }
+    let (family, way) = random.pick(in_turn(&lists.alone, turn).1);
+    standing_at(random, family, way, Vec::new())
 }
 
 /// Two jobs that demand 3 orders, in every way in which their permitted heights and check 12 can stand together.
@@ -170,22 +153,21 @@ pub fn ways_alone() -> Ways<Way> {
     ways
 }
 
-/// Every cell of two jobs that can be filled, with what to aim at: the second no less high, its stability no greater.
+/// Every cell of two jobs that can be filled, with what to aim at: the second is no lower, its stability no greater.
 pub fn ways_together() -> Ways<[Way; 2]> {
     let mut ways = Ways::new();
     for (family, one) in (0..AIMED).map(aimed) {
-        for other in HEIGHTS.into_iter().filter(|&other| other <= one) {
-            let heights = own_heights(family, &[one, other]);
-            for (&height, &higher) in
-                heights.iter().flat_map(|height| heights.iter().map(move |higher| (height, higher)))
-            {
-                if height <= higher {
-                    let jobs = [(one, height), (other, higher)];
-                    let [first, second] = jobs.map(|job| judgement(family, job));
-                    ways.entry(together_cell(family, first, second)).or_insert_with(Vec::new).push((family, jobs));
-                }
+        for (_, other) in (0..OF_A_FAMILY).map(aimed).filter(|&(_, other)| other <= one) {
+            for jobs in ordered(&own_heights(family, &[one, other])).map(|[low, high]| [(one, low), (other, high)]) {
+                let [first, second] = jobs.map(|job| judgement(family, job));
+                ways.entry(together_cell(family, first, second)).or_insert_with(Vec::new).push((family, jobs));
             }
         }
     }
     ways
+}
+
+/// Each two of the heights, the second no lower.
+fn ordered(heights: &[u32]) -> impl Iterator<Item = [u32; 2]> {
+    (0..heights.len()).flat_map(move |low| heights[low..].iter().map(move |&high| [heights[low], high]))
 }
