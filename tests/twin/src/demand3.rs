@@ -1,5 +1,4 @@
-//! Demand 3, with what request 5/14 adds to it, on the library's own reports: pairs of jobs, one job at several heights.
-//! Pairs of supports beside them.
+//! Demand 3 with request 5/14, on the library's own reports: pairs of jobs of either kind, one job at several heights.
 
 use crate::call::Call;
 use crate::paper::file::{self, Content};
