@@ -32,15 +32,12 @@ reflexive : (j : Job) → Harsher j j
 reflexive j = search (mono, at_most_itself)
 
 -- both heights of two counts, of which the second is no greater
-stability_falls : (f g : ℕ) {m n : ℕ} → n ≤ m → NoHigher (stability_told (W.heights g n)) (stability_told (W.heights f m))
-stability_falls f g {m = m} {n = zero} l = tt
-stability_falls f g {m = zero} {n = suc H} l = absurd (omega arith)
-stability_falls f g {m = suc G} {n = suc H} l = omega arith
-
-permitted_falls : {f g m n : ℕ} → g ≡ f → n ≤ m → NoHigher (permitted_told (W.heights g n)) (permitted_told (W.heights f m))
-permitted_falls {m = m} {n = zero} e l = tt
-permitted_falls {m = zero} {n = suc H} e l = absurd (omega arith)
-permitted_falls {m = suc G} {n = suc H} e l = permitted_grows e (omega arith)
+heights_fall : {f g m n : ℕ} → g ≡ f → n ≤ m →
+    (let told = W.heights g n in
+    let most = W.heights f m in NoHigher (stability_told told) (stability_told most) × NoHigher (permitted_told told) (permitted_told most))
+heights_fall {m = m} {n = zero} e l = (tt, tt)
+heights_fall {m = zero} {n = suc H} e l = absurd (omega arith)
+heights_fall {m = suc G} {n = suc H} e l = (omega arith, permitted_grows e (omega arith))
 
 -- a height of a count has just the numbers below the count
 up_to : (family n H : ℕ) → UpTo H (stability_told (W.heights family n)) ↔ (H < n)
@@ -72,10 +69,10 @@ count_less : (s : List ℕ) (j k : Job) → Accepted s k → Harsher j k → W.c
 count_less s j k b h = count_falls s h (bounds k (job_stands s k b)) (sheet_stands s k b)
 
 no_height_gained : (s : List ℕ) (j k : Job) → Accepted s j → Accepted s k → Harsher j k → NoHigher (stability_of s k) (stability_of s j)
-no_height_gained s j k a b h = rw (heights_are s j a, heights_are s k b) (stability_falls j.family k.family (count_less s j k b h))
+no_height_gained s j k a b h = rw (heights_are s j a, heights_are s k b) (heights_fall (sym h.family) (count_less s j k b h)).0
 
 no_more_permitted : (s : List ℕ) (j k : Job) → Accepted s j → Accepted s k → Harsher j k → NoHigher (permitted_of s k) (permitted_of s j)
-no_more_permitted s j k a b h = rw (heights_are s j a, heights_are s k b) (permitted_falls (sym h.family) (count_less s j k b h))
+no_more_permitted s j k a b h = rw (heights_are s j a, heights_are s k b) (heights_fall (sym h.family) (count_less s j k b h)).1
 
 height_exact : (s : List ℕ) (j : Job) → Accepted s j → (H : ℕ) → H ≤ 6000 → T (P.poles j s H) ↔ UpTo H (stability_of s j)
 unfolding W.count W.height_count
