@@ -1,5 +1,5 @@
-/* The C interface of Rembilung: a scaffold job or a formwork support judged by section 5 of JGJ 130-2001, job files and
- * season's books written and read.
+/* The C interface of Rembilung: a scaffold job or a formwork support judged by section 5 of JGJ 130-2001, all scaffold
+ * jobs between two of them judged at once, job files and season's books written and read.
  *
  * What it does. A scaffold job is 25 whole numbers that describe one facade scaffold of tube and couplers; a formwork
  * support is 13, of which the first is 3. A job file is a job of either kind packed into bytes: each number in groups of
@@ -27,12 +27,20 @@
  *     if (rembilung_refused(read)) ..
  *     rows[REMBILUNG_NUMBERS_OF(2) + REMBILUNG_BAY]   the bay of the third row, where read is at least 3
  *
+ * Where a number is known only between two reports, as the ground's strength from two trial pits or the wind as a band,
+ * rembilung_between tells of a mild and a harsh job what holds of every job between them:
+ *
+ *     uint32_t answer[REMBILUNG_BETWEEN_NUMBERS];
+ *     uint64_t told = rembilung_between(sheet, REMBILUNG_SHEET_BYTES, mild, harsh, answer);
+ *     if (rembilung_refused(told)) ..
+ *     answer[11 - 1] == REMBILUNG_UNDECIDED           check 11 passes at the mild end, fails at the harsh
+ *
  * Every input is met by an answer or a refusal: nothing has to be tested before a call.
  *
- * Buffers. A pointer and the length after it are one lent buffer, and so are 25 numbers, or 13; nothing else is read or
- * written. The length of rows is in numbers, 25 a row: REMBILUNG_NUMBERS_OF(rows). A pointer is never null, not even where
- * its length is 0. A buffer that is written shares no byte with another of the call. Bytes may stand at any address;
- * numbers stand where C puts a uint32_t. What a call does not write, it only reads.
+ * Buffers. A pointer and the length after it are one lent buffer, and so are 25 numbers, or 13, or 14; nothing else is
+ * read or written. The length of rows is in numbers, 25 a row: REMBILUNG_NUMBERS_OF(rows). A pointer is never null, not
+ * even where its length is 0. A buffer that is written shares no byte with another of the call. Bytes may stand at any
+ * address; numbers stand where C puts a uint32_t. What a call does not write, it only reads.
  *
  * No call keeps anything: there is no state, nothing is allocated or printed, and threads may call at the same time as
  * long as none writes to a buffer that another has lent.
@@ -68,6 +76,11 @@ extern "C" {
 #define REMBILUNG_BOOK_MOST 8402
 /* The numbers of so many rows: the length to lend rows with. */
 #define REMBILUNG_NUMBERS_OF(rows) ((size_t)(rows) * REMBILUNG_NUMBERS)
+/* How many checks there are, and what rembilung_between answers: a number for each, then two heights. */
+#define REMBILUNG_CHECKS 12
+#define REMBILUNG_BETWEEN_NUMBERS 14
+/* "None" in an answer of numbers, which no height comes near. */
+#define REMBILUNG_NONE UINT32_C(4294967295)
 
 /* The numbers of a scaffold job in their order: numbers[REMBILUNG_BAY] is the bay. Fields count from 1 in a refusal, so
  * field p is numbers[p - 1]. Beside each: the field, its unit, its range. */
@@ -139,7 +152,10 @@ enum rembilung_support_number {
  *     10       a book of more than 200 rows                                  the number of rows
  *     11       a row of a book that 3, 4 or 5 would refuse as a scaffold     the lowest such row, from 0
  *              job; so a row that begins with 3
+ *     12       two jobs of which the second is not the first or a harsher    the lowest field that is unlike or runs the
+ *              one                                                           wrong way, from 1
  *
+ * Of the harsh job of rembilung_between the places of 3, 4 and 5 are 25 higher, from 26 to 50.
  * A place above 4,294,967,295 is given as 4,294,967,295. Where several refusals are due, each call says which goes first.
  * Of a support 4 and 5 are never due.
  */
@@ -147,7 +163,7 @@ static inline int rembilung_refused(uint64_t result) {
     return result >> 32 != 0;
 }
 
-/* The refusal number, 1 to 11, or 0 where nothing was refused. */
+/* The refusal number, 1 to 12, or 0 where nothing was refused. */
 static inline uint32_t rembilung_refusal(uint64_t result) {
     return (uint32_t)(result >> 32);
 }
@@ -223,6 +239,34 @@ uint64_t rembilung_write_book(const uint32_t *rows, size_t numbers,
  * follows them, then 11, then 8 with the number of rows. */
 uint64_t rembilung_read_book(const uint8_t *book, size_t book_len,
                              uint32_t *rows, size_t numbers);
+
+/* What holds of every accepted scaffold job between two, for each check: answer[c - 1] of check c. A check that is not due
+ * counts as one that passes. */
+enum rembilung_outcome {
+    REMBILUNG_PASSES_THROUGHOUT = 1, /* it fails for no job between the ends */
+    REMBILUNG_FAILS_THROUGHOUT = 2,  /* it fails for every one */
+    REMBILUNG_UNDECIDED = 3          /* it passes at the mild end and fails at the harsh end */
+};
+
+/* Where the two stability heights stand in the answer, behind the twelve checks. */
+enum rembilung_between_number {
+    REMBILUNG_BETWEEN_MILD_HEIGHT = 12, /* the mild end's stability height, cm, or REMBILUNG_NONE */
+    REMBILUNG_BETWEEN_HARSH_HEIGHT      /* the harsh end's; that of each job between is at most the mild end's and at
+                                         * least the harsh end's, "none" counting as the least */
+};
+
+/* What holds of every accepted scaffold job between a mild and a harsh one, under a sheet: 14 numbers.
+ * Returns 14, or a refusal with the answer as it was, the first of 1, 2, then 3, 4, 5 of the mild job, then 3, 4, 5 of the
+ * harsh job with its places from 26 to 50, then 12.
+ *
+ * The harsh job is the mild one or a harsher one: fields 1, 2, 8, 17 and 19 are equal; 3 to 7, 9 to 16 and 18 are no
+ * smaller; 22, 24 and 25 are no greater, and nor is the soil factor of 23, which is the same for soils 1, 2 and 3; 20 and
+ * 21 are free. Else 12 names the lowest field of which that is not so. A job is between them where it is so of the mild job
+ * and that job, and of that job and the harsh job. Both ends may be the same job. */
+uint64_t rembilung_between(const uint8_t *sheet, size_t sheet_len,
+                           const uint32_t mild[REMBILUNG_NUMBERS],
+                           const uint32_t harsh[REMBILUNG_NUMBERS],
+                           uint32_t answer[REMBILUNG_BETWEEN_NUMBERS]);
 
 #ifdef __cplusplus
 }
