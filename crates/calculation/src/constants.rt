@@ -63,7 +63,7 @@ pub(crate) fn rail_of(boards: Boards) -> u64
     }
 }
 
-pub(crate) fn soil_factor(soil: Soil) -> u64
+pub fn soil_factor(soil: Soil) -> u64
     ensures { Is result (soil_factor (soil_number soil)) 10 }
 {
     match soil {

@@ -20,15 +20,17 @@ use Rattle.jobfile.specs.declared.FileJob.TheVariants.{Scaffold, Support}
 use Rattle.book.specs.Read.{rows_read, rows_left}
 use Rattle.book.specs.Write.{book_written, book_left}
 use Rattle.report.specs.Report.{report}
+use Rattle.between.specs.Between as Between
+use Rattle.between.specs.declared.Between.{Between as Told}
 use Rattle.rembilung.specs.Code.{written_code}
 
 -- the 251 entries of 502 bytes, each low byte first
 abbrev pub entries_of : List ℕ → List ℕ
 entries_of sheet = entries sheet 251
 
--- what reading a file refuses
-abbrev pub refusal_in : Result FileJob Refusal → Examined
-refusal_in (Ok job) = nothing
+-- what an answer refuses, if it is a refusal
+abbrev pub refusal_in : {A : Type 0} → Result A Refusal → Examined
+refusal_in (Ok answer) = nothing
 refusal_in (Err refusal) = Err refusal
 
 -- the judgement of a job of either kind, under the entries of a sheet
@@ -114,3 +116,23 @@ read_book_code book out = written_code (rows_read book out)
 
 unfoldable pub read_book_buffer : List ℕ → List ℕ → List ℕ
 read_book_buffer book out = rows_left book out
+
+-- what is told of two ends, by their 25 numbers each: 1 with the sheet's length in bytes, or what is answered under its entries
+abbrev pub between_told : List ℕ → List ℕ → List ℕ → Result Told Refusal
+between_told sheet mild harsh = unless (eqb (length sheet) 502) (SheetLength (length sheet)) (Between.answer (entries_of sheet) (Job.job_of mild) (Job.job_of harsh))
+
+-- its fourteen numbers are written, or none
+abbrev pub fourteen : Result Told Refusal → Result ℕ Refusal
+fourteen (Ok b) = Ok 14
+fourteen (Err refusal) = Err refusal
+
+abbrev pub told_left : Result Told Refusal → List ℕ → List ℕ
+told_left (Ok b) before = Between.numbers b
+told_left (Err refusal) before = before
+
+-- the call on two ends returns 14 alone, or the refusal and its place; the numbers afterwards
+unfoldable pub between_code : List ℕ → List ℕ → List ℕ → ℕ
+between_code sheet mild harsh = written_code (fourteen (between_told sheet mild harsh))
+
+unfoldable pub between_buffer : List ℕ → List ℕ → List ℕ → List ℕ → List ℕ
+between_buffer sheet mild harsh before = told_left (between_told sheet mild harsh) before

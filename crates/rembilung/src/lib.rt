@@ -1,13 +1,17 @@
-// The calls of the C interface: the whole call, job files of both kinds for a host that keys numbers in, and season's books. Crate rembilung_c opens them to C.
+// The calls of the C interface: the whole call, job files of both kinds for a host that keys numbers in, season's books, and two ends. Crate rembilung_c opens them to C.
 #![tactic(auto)]
 
-ghost use Rattle.std.specs.Prelude.{◌≡◌};
+ghost use Rattle.std.specs.Prelude.{◌≡◌, eqb, length};
+ghost use Rattle.basis.specs.Refusal.{unless};
+ghost use Rattle.basis.specs.declared.Refusal.TheVariants.{SheetLength};
+ghost use Rattle.between.specs.Between.{answer};
 ghost use Rattle.jobfile.specs.Kind.{scaffold, support};
 ghost use Rattle.jobfile.specs.Read.{job_in};
 ghost use Rattle.rembilung.specs.Code.{written_code};
-ghost use Rattle.rembilung.specs.Call.{judgement_in, call_answer, call_code, call_buffer, count_in, left_in, write_code, write_buffer, read_code, read_buffer, write_book_code, write_book_buffer, read_book_code, read_book_buffer};
+ghost use Rattle.rembilung.specs.Call.{entries_of, judgement_in, call_answer, call_code, call_buffer, count_in, left_in, write_code, write_buffer, read_code, read_buffer, write_book_code, write_book_buffer, read_book_code, read_book_buffer, between_told, fourteen, told_left, between_code, between_buffer};
 
 use basis::Refusal;
+use between::{Between, NUMBERS, judge_between};
 use formwork::judge_accepted_support;
 use job::Job;
 use jobfile::{FileJob, JOB_NUMBERS, SUPPORT_NUMBERS};
@@ -125,4 +129,42 @@ pub fn rembilung_read_book(book: &[u8], rows: &mut [u32]) -> u64
     ensures buffer { rows.new ≡ read_book_buffer book.now rows.old }
 {
     code_of(bookfile::read(book, rows))
+}
+
+// What is told of two ends under a sheet of bytes, or a refusal (1, 2, then 3, 4, 5 of either, then 12).
+fn between(sheet: &[u8], mild: Job, harsh: Job) -> Result<Between, Refusal>
+    ensures { result ≡ unless (eqb (length sheet.now) 502) (SheetLength (length sheet.now)) (answer (entries_of sheet.now) mild harsh) }
+{
+    let Ok(bytes) = <&[u8; 502]>::try_from(sheet) else {
+        return Err(Refusal::SheetLength(sheet.len() as u64));
+    };
+    judge_between(&sheet::entries_of(bytes), mild, harsh)
+}
+
+// Its fourteen numbers written, or a refusal and the numbers as they were.
+fn tell(
+    sheet: &[u8],
+    mild: &[u32; 25],
+    harsh: &[u32; 25],
+    answer: &mut [u32; NUMBERS],
+) -> Result<usize, Refusal>
+    ensures returned { result ≡ fourteen (between_told sheet.now mild.now harsh.now) }
+    ensures buffer { answer.new ≡ told_left (between_told sheet.now mild.now harsh.now) answer.old }
+{
+    *answer = between(sheet, Job::from(*mild), Job::from(*harsh))?.into();
+    Ok(NUMBERS)
+}
+
+// What holds of every job between two: 14, or a refusal with the answer as it was.
+#[tactic(auto, unfolding(crate::specs::Call::between_code, crate::specs::Call::between_buffer))]
+pub fn rembilung_between(
+    sheet: &[u8],
+    mild: &[u32; 25],
+    harsh: &[u32; 25],
+    answer: &mut [u32; NUMBERS],
+) -> u64
+    ensures returned { result ≡ between_code sheet.now mild.now harsh.now }
+    ensures buffer { answer.new ≡ between_buffer sheet.now mild.now harsh.now answer.old }
+{
+    code_of(tell(sheet, mild, harsh, answer))
 }

@@ -3,7 +3,7 @@
 
 ghost use Rattle.std.specs.Prelude.{◌≡◌};
 ghost use Rattle.jobfile.specs.Kind.{scaffold, support};
-ghost use Rattle.rembilung.specs.Call.{call_code, call_buffer, write_code, write_buffer, read_code, read_buffer, write_book_code, write_book_buffer, read_book_code, read_book_buffer};
+ghost use Rattle.rembilung.specs.Call.{call_code, call_buffer, write_code, write_buffer, read_code, read_buffer, write_book_code, write_book_buffer, read_book_code, read_book_buffer, between_code, between_buffer};
 
 // The job file of a scaffold's 25 numbers: its length, or a refusal (3, 4, 5, 8).
 #[unsafe(no_mangle)]
@@ -57,4 +57,18 @@ pub extern "C" fn rembilung_read_book(book: &[u8], rows: &mut [u32]) -> u64
     ensures buffer { rows.new ≡ read_book_buffer book.now rows.old }
 {
     rembilung::rembilung_read_book(book, rows)
+}
+
+// What holds of every job between two: 14, or a refusal (1, 2, then 3, 4, 5 of the mild job, then of the harsh job, then 12), with the answer as it was.
+#[unsafe(no_mangle)]
+pub extern "C" fn rembilung_between(
+    sheet: &[u8],
+    mild: &[u32; 25],
+    harsh: &[u32; 25],
+    answer: &mut [u32; 14],
+) -> u64
+    ensures returned { result ≡ between_code sheet.now mild.now harsh.now }
+    ensures buffer { answer.new ≡ between_buffer sheet.now mild.now harsh.now answer.old }
+{
+    rembilung::rembilung_between(sheet, mild, harsh, answer)
 }

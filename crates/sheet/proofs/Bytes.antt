@@ -1,14 +1,15 @@
 -- Laws of the entries of a sheet's bytes: how many there are, and that what gives each of them gives them all.
 -- Assumes nothing.
-use mathlib.Core.Path.{◌≡◌, ◌∙◌, refl, sym, ap, subst}
+use mathlib.Core.Path.{◌≡◌, ◌∙◌, refl, sym, ap}
 use mathlib.Core.List.{List, ◌∷◌, [], ◌++◌, map}
-use Prim.Native.Nat.{ℕ, zero, suc, ◌+◌, ◌*◌, ◌<◌}
+use Prim.Native.Nat.{ℕ, zero, suc, ◌+◌, ◌*◌}
 use native.Mathlib.Omega.{arith}
 use lib.ListN.{length, get_or, length-append}
-use Rattle.std.specs.Array.{IsFromFnResult, IsFromFnResultFrom}
+use Rattle.std.specs.Array.{IsFromFnResult}
 use Rattle.std.specs.Fn.{Mut, Called}
 use Rattle.std.specs.List.{range_with_len}
-use Rattle.std.proofs.lemmas.List.FromFn.{fill_by_all, map-range_with_len_more}
+use Rattle.std.proofs.lemmas.List.FromFn.{map-range_with_len_more}
+use Rattle.basis.proofs.Made.{called_all}
 use Rattle.sheet.specs.Bytes.{entry, entries}
 
 pub entries_long : (bytes : List ℕ) (n : ℕ) → length (entries bytes n) ≡ n
@@ -27,17 +28,7 @@ entries_each bytes (suc n) =
     let m : suc n ≡ n + 1 = omega arith in
     ap (λ (l : List ℕ). l ++ entry_at bytes n ∷ []) (entries_each bytes n) ∙ sym (map-range_with_len_more (entry_at bytes) 0 n n (omega arith)) ∙ ap (λ (k : ℕ). map (entry_at bytes) (range_with_len 0 k)) (sym m)
 
--- a call for each, none of which changes what is called
-module _ {F : Type 0} (g : Mut F (ℕ × Unit {0}) ℕ) (v : ℕ → ℕ) (f : F) (h : (k r : ℕ) (q : F) → Called g f (k, tt) r q → (q ≡ f) × (r ≡ v k)) where
-  called_each : (xs : List ℕ) (n i k j : ℕ) → i + k ≡ j → IsFromFnResultFrom g f xs i n → k < n → get_or xs j 0 ≡ v j
-  called_each xs zero i k j e c l = absurd (omega arith)
-  called_each xs (suc n) i zero j e c l = let z : j ≡ i = omega arith in rw z (c.2.1 0 ∙ (h i c.1 c.0 c.3).1)
-  called_each xs (suc n) i (suc k) j e c l = called_each xs n (i + 1) k j (omega arith) (subst (λ (y : F). IsFromFnResultFrom g y xs (i + 1) n) (h i c.1 c.0 c.3).0 c.4) (omega arith)
-
-  called_all : (xs : List ℕ) (n : ℕ) → IsFromFnResult g f xs n → xs ≡ map v (range_with_len 0 n)
-  called_all xs n r = fill_by_all v xs n 0 r.long (λ k l. called_each xs n 0 k k (omega arith) r.each l)
-
 -- what gives each entry gives them all
 pub entries_called : (bytes : List ℕ) {F : Type 0} (g : Mut F (ℕ × Unit {0}) ℕ) (f : F) → ((k r : ℕ) (q : F) → Called g f (k, tt) r q → (q ≡ f) × (r ≡ entry_at bytes k))
     → (xs : List ℕ) (n : ℕ) → IsFromFnResult g f xs n → xs ≡ entries bytes n
-entries_called bytes g f h xs n r = called_all g (entry_at bytes) f h xs n r ∙ sym (entries_each bytes n)
+entries_called bytes g f h xs n r = called_all g (entry_at bytes) f h 0 xs n r ∙ sym (entries_each bytes n)

@@ -1,0 +1,7 @@
+pub mod Chain
+pub mod Fields
+pub mod Places
+pub mod Heights
+pub mod Ways
+pub mod Throughout
+pub mod Marked

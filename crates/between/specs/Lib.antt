@@ -1,0 +1,6 @@
+pub mod Outcome
+pub mod Order
+pub mod Between
+pub mod Bounded
+pub mod Throughout
+pub mod Marked
