@@ -4,4 +4,5 @@ pub mod Places
 pub mod Heights
 pub mod Ways
 pub mod Throughout
+pub mod Numbers
 pub mod Marked

@@ -5,7 +5,7 @@ use mathlib.Core.List.{List, ◌++◌, append-nil}
 use Prim.Native.Nat.{ℕ, ◌+◌, ◌*◌, min}
 use native.Mathlib.Omega.{arith}
 use lib.ListN.{length, drop, drop_of_length-le}
-use Rattle.std.specs.Prelude.{Result, Ok}
+use Rattle.std.specs.Prelude.{Result, Ok, Err}
 use Rattle.basis.specs.Refusal.{Examined}
 use Rattle.basis.specs.Writing.{written_or, left_or}
 use Rattle.basis.specs.Rows.{Refused, Follows}
@@ -25,6 +25,17 @@ use Rattle.rembilung.proofs.Table.{reads_job, reads_refused, write_follows, text
 -- the code of an answer that is refused
 pub code_refused : (answer : Result ℕ Refusal) (n p : ℕ) → Refused answer n p → written_code answer ≡ n * 4294967296 + min p 4294967295
 code_refused answer n p a = rw (a.is, a.number_is, a.place_is) refl
+
+-- what is returned of a length
+pub returned : {w : Result ℕ Refusal} {n : ℕ} → w ≡ Ok n → written_code w ≡ n
+returned e = rw e refl
+
+-- a row that applies is what is refused
+pub refuses : {A : Type 0} {r : Result A Refusal} (w : Result ℕ Refusal) (before after : List ℕ) → ((x : Refusal) → r ≡ Err x → (w ≡ Err x) × (after ≡ before))
+    → (n p : ℕ) → Refused r n p → Refuses n p (written_code w) before after
+refuses w before after h n p e =
+    let d = h e.refusal e.is in
+    record { code = code_refused w n p (record { refusal = e.refusal; is = d.0; number_is = e.number_is; place_is = e.place_is }); kept = d.1 }
 
 module _ {r : Examined} {Row : ℕ → ℕ → Type 0} {None : Type 0} (f : Follows r Row None) (written out : List ℕ) where
   -- of a text that is written, or not

@@ -25,19 +25,8 @@ use Rattle.rembilung.specs.Call.{write_book_code, write_book_buffer, read_book_c
 use Rattle.rembilung.specs.Table.{Refuses}
 use Rattle.rembilung.specs.Header.{Halves}
 use Rattle.rembilung.specs.Books.{book_most, book_rows_most, SomeRows, Books}
-use Rattle.rembilung.proofs.Answered.{code_refused}
+use Rattle.rembilung.proofs.Answered.{returned, refuses}
 use Rattle.rembilung.proofs.Header.{halves}
-
--- what is returned of a length
-returned : {w : Result ℕ Refusal} {n : ℕ} → w ≡ Ok n → written_code w ≡ n
-returned e = rw e refl
-
--- a row that applies is what is refused
-refuses : {r : Examined} (w : Result ℕ Refusal) (before after : List ℕ) → ((x : Refusal) → r ≡ Err x → (w ≡ Err x) × (after ≡ before))
-    → (n p : ℕ) → Refused r n p → Refuses n p (written_code w) before after
-refuses w before after h n p e =
-    let d = h e.refusal e.is in
-    record { code = code_refused w n p (record { refusal = e.refusal; is = d.0; number_is = e.number_is; place_is = e.place_is }); kept = d.1 }
 
 -- ---- Writing
 

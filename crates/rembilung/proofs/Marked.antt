@@ -1,4 +1,4 @@
--- The marked cases of the whole call hold: by computation, row by row.
+-- The marked cases of the whole call and of the call on two ends hold: by computation, row by row.
 -- Assumes nothing.
 use mathlib.Core.Path.{refl}
 use Rattle.basis.specs.Fraction.{ceil, ◌≼◌, up, down}
@@ -9,9 +9,11 @@ use Rattle.section5.specs.Formwork.{clause}
 use Rattle.judge.specs.Marked.{examined}
 use Rattle.jobfile.specs.Marked.{files}
 use Rattle.report.specs.Report.{report, lines}
-use Rattle.rembilung.specs.Call.{call_code}
-use Rattle.rembilung.specs.Marked.{rows, returned, sheet_bytes}
+use Rattle.between.specs.Order.{in_order, disorder}
+use Rattle.between.specs.Between.{of_harsh}
+use Rattle.rembilung.specs.Call.{call_code, between_code}
+use Rattle.rembilung.specs.Marked.{rows, returned, between_returned, sheet_bytes}
 
 pub marked : Hold rows
-unfolding Hold rows returned sheet_bytes paper clause ceil ◌≼◌ up down lines report examined entries files call_code
-marked = (refl, (refl, (refl, (refl, (refl, (refl, (refl, (refl, (refl, (refl, (refl, (refl, (refl, (refl, tt))))))))))))))
+unfolding Hold rows returned sheet_bytes paper clause ceil ◌≼◌ up down lines report examined entries files call_code between_returned between_code in_order disorder of_harsh
+marked = (refl, (refl, (refl, (refl, (refl, (refl, (refl, (refl, (refl, (refl, (refl, (refl, (refl, (refl, (refl, (refl, (refl, (refl, (refl, (refl, tt))))))))))))))))))))

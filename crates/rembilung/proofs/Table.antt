@@ -135,7 +135,7 @@ module _ (sheet : List ℕ) where
   sheet_entries : length sheet ≡ 502 → sheet_refusal sheet ≡ Sheet.examination (entries_of sheet)
   sheet_entries l = ap (λ b. unless b (SheetLength (length sheet)) (Sheet.examination (entries_of sheet))) (eq-eqb (length sheet) 502 l)
 
-  sheet_follows : Follows (sheet_refusal sheet) (SheetRow sheet) (SheetStands sheet)
+  pub sheet_follows : Follows (sheet_refusal sheet) (SheetRow sheet) (SheetStands sheet)
   sheet_follows =
       record {
         row = row;

@@ -6,3 +6,4 @@ pub mod Marked
 pub mod Shown
 pub mod Demands
 pub mod Books
+pub mod Between

@@ -1,4 +1,4 @@
--- Marked cases of the whole call: job J's report and support S's, and of two things that are to be refused the one that comes first.
+-- Marked cases of the whole call, job J's report and support S's, and of the call on two ends; of two things that are to be refused the one that comes first.
 -- Assumes nothing.
 use Rattle.std.specs.Prelude.{ℕ, ◌/◌, ◌%◌, List, [], ◌∷◌, ◌++◌, set, replicate}
 use Rattle.basis.specs.Marked.{Row, row}
@@ -9,7 +9,7 @@ use Rattle.sheet.specs.SheetT.{sheet_T}
 use Rattle.groups.specs.Encode.{encode_all}
 use Rattle.jobfile.specs.Kind.{scaffold, support}
 use Rattle.jobfile.specs.Marked.{longest}
-use Rattle.rembilung.specs.Call.{call_code}
+use Rattle.rembilung.specs.Call.{call_code, between_code}
 use Rattle.rembilung.specs.Header.{report_most}
 
 -- the bytes of a sheet's entries, low byte first
@@ -22,8 +22,12 @@ unfoldable pub returned : List ℕ → List ℕ → ℕ → List ℕ
 returned sheet file room =
     call_code (sheet_bytes sheet) file (replicate room 0) / 4294967296 ∷ call_code (sheet_bytes sheet) file (replicate room 0) % 4294967296 ∷ []
 
+-- what the call on two ends returns: its upper half and its lower half
+unfoldable pub between_returned : List ℕ → List ℕ → List ℕ → List ℕ
+between_returned sheet mild harsh = between_code (sheet_bytes sheet) mild harsh / 4294967296 ∷ between_code (sheet_bytes sheet) mild harsh % 4294967296 ∷ []
+
 unfoldable pub rows : List Row
-unfolding sheet_T numbers_J numbers_S longest returned encode_all
+unfolding sheet_T numbers_J numbers_S longest returned between_returned encode_all
 rows =
     -- J's report has 161 bytes
     row (returned sheet_T (encode_all numbers_J) (report_most scaffold)) (0 ∷ 161 ∷ [])
@@ -45,4 +49,11 @@ rows =
     ∷ row (returned [] (encode_all (set numbers_S 12 99) ++ (0 ∷ [])) 0) (1 ∷ 0 ∷ [])
     ∷ row (returned sheet_T (encode_all (set numbers_S 12 99) ++ (0 ∷ [])) 0) (7 ∷ 20 ∷ [])
     ∷ row (returned sheet_T (encode_all (set numbers_S 12 99)) 0) (3 ∷ 13 ∷ [])
+    -- of two ends: a sheet before the mild job, the mild before the harsh, both before their order, whose field 4 runs the wrong way
+    ∷ row (between_returned [] (set numbers_J 24 99) numbers_J) (1 ∷ 0 ∷ [])
+    ∷ row (between_returned (set sheet_T 250 116) (set numbers_J 24 99) numbers_J) (2 ∷ 250 ∷ [])
+    ∷ row (between_returned sheet_T (set numbers_J 24 99) (set numbers_J 9 9)) (3 ∷ 25 ∷ [])
+    ∷ row (between_returned sheet_T (set numbers_J 3 151) (set numbers_J 9 9)) (4 ∷ 35 ∷ [])
+    ∷ row (between_returned sheet_T (set numbers_J 3 151) numbers_J) (12 ∷ 4 ∷ [])
+    ∷ row (between_returned sheet_T numbers_J numbers_J) (0 ∷ 14 ∷ [])
     ∷ []

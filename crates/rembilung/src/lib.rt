@@ -1,7 +1,7 @@
 // The calls of the C interface: the whole call, job files of both kinds for a host that keys numbers in, season's books, and two ends. Crate rembilung_c opens them to C.
 #![tactic(auto)]
 
-ghost use Rattle.std.specs.Prelude.{◌≡◌, eqb, length};
+ghost use Rattle.std.specs.Prelude.{◌≡◌, eqb, length, Ok};
 ghost use Rattle.basis.specs.Refusal.{unless};
 ghost use Rattle.basis.specs.declared.Refusal.TheVariants.{SheetLength};
 ghost use Rattle.between.specs.Between.{answer};
@@ -52,6 +52,16 @@ fn read_job(file: &[u8], numbers: &mut [u32; 25]) -> Result<usize, Refusal>
     }
 }
 
+// The entries of a sheet that is lent as bytes, or a refusal (1, with its length in bytes).
+fn entries_in(sheet: &[u8]) -> Result<[u16; 251], Refusal>
+    ensures { result ≡ unless (eqb (length sheet.now) 502) (SheetLength (length sheet.now)) (Ok (entries_of sheet.now)) }
+{
+    let Ok(bytes) = <&[u8; 502]>::try_from(sheet) else {
+        return Err(Refusal::SheetLength(sheet.len() as u64));
+    };
+    Ok(sheet::entries_of(bytes))
+}
+
 // The judgement of a job of either kind.
 fn judgement_of(sheet: &StandingSheet<'_>, job: FileJob) -> Judgement
     ensures { result ≡ judgement_in sheet.now job }
@@ -68,10 +78,7 @@ pub fn verdict(sheet: &[u8], file: &[u8], report: &mut [u8]) -> Result<usize, Re
     ensures returned { result ≡ call_answer sheet.now file.now report.old }
     ensures buffer { report.new ≡ call_buffer sheet.now file.now report.old }
 {
-    let Ok(bytes) = <&[u8; 502]>::try_from(sheet) else {
-        return Err(Refusal::SheetLength(sheet.len() as u64));
-    };
-    let entries = sheet::entries_of(bytes);
+    let entries = entries_in(sheet)?;
     let sheet = StandingSheet::try_from(&entries[..])?;
     let job = jobfile::read(file)?;
     report::write(judgement_of(&sheet, job), report)
@@ -132,13 +139,10 @@ pub fn rembilung_read_book(book: &[u8], rows: &mut [u32]) -> u64
 }
 
 // What is told of two ends under a sheet of bytes, or a refusal (1, 2, then 3, 4, 5 of either, then 12).
-fn between(sheet: &[u8], mild: Job, harsh: Job) -> Result<Between, Refusal>
+fn judged_between(sheet: &[u8], mild: Job, harsh: Job) -> Result<Between, Refusal>
     ensures { result ≡ unless (eqb (length sheet.now) 502) (SheetLength (length sheet.now)) (answer (entries_of sheet.now) mild harsh) }
 {
-    let Ok(bytes) = <&[u8; 502]>::try_from(sheet) else {
-        return Err(Refusal::SheetLength(sheet.len() as u64));
-    };
-    judge_between(&sheet::entries_of(bytes), mild, harsh)
+    judge_between(&entries_in(sheet)?, mild, harsh)
 }
 
 // Its fourteen numbers written, or a refusal and the numbers as they were.
@@ -151,7 +155,7 @@ fn tell(
     ensures returned { result ≡ fourteen (between_told sheet.now mild.now harsh.now) }
     ensures buffer { answer.new ≡ told_left (between_told sheet.now mild.now harsh.now) answer.old }
 {
-    *answer = between(sheet, Job::from(*mild), Job::from(*harsh))?.into();
+    *answer = judged_between(sheet, Job::from(*mild), Job::from(*harsh))?.into();
     Ok(NUMBERS)
 }
 
