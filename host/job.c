@@ -4,9 +4,10 @@
 #include <string.h>
 
 #include "commands.h"
-#include "explain.h"
 #include "fields.h"
 #include "files.h"
+#include "keyed.h"
+#include "number.h"
 #include "refuse.h"
 #include "rembilung.h"
 #include "report.h"
@@ -29,20 +30,6 @@ typedef struct {
     uint32_t numbers[REMBILUNG_NUMBERS];
     int numbered;
 } Job;
-
-static int is_digits(const char *word) {
-    return word[0] != '\0' && word[strspn(word, "0123456789")] == '\0';
-}
-
-static int number_of(const Field *field, int place, const char *word, uint32_t *number) {
-    NumberKind kind = read_number(word, strlen(word), number);
-    if (kind == NUMBER_READ)
-        return 1;
-    Text why = {{0}, 0};
-    explain_number(&why, kind, word, strlen(word), field);
-    fprintf(stderr, "rembilung: number %d, %s: %s\n", place, field->name, why.bytes);
-    return 0;
-}
 
 /* The kind that the first word makes; one that is no number is taken for a scaffold's, and is named later. */
 static const Kind *kind_keyed_in(const Words *given) {
@@ -71,10 +58,7 @@ static int numbers_of(const Words *given, const Kind *kind, uint32_t *numbers) {
         say_count(given, kind);
         return 0;
     }
-    int read = 1;
-    for (int k = 0; read && k < kind->count; k++)
-        read = number_of(&kind->fields[k], k + 1, given->words[k], &numbers[k]);
-    return read;
+    return read_words(given->words, kind, "", numbers);
 }
 
 /* The numbers of a job that was not given as a file: those of the command line, or J's. */

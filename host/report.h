@@ -7,7 +7,7 @@
 
 #include "fields.h"
 
-#define CHECKS 12
+#define CHECKS REMBILUNG_CHECKS
 enum { NOT_DUE = 0, PASSES = 1, FAILS = 2 };
 
 typedef struct {
