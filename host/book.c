@@ -6,6 +6,8 @@
 #include "explain.h"
 #include "fields.h"
 
+const char book_takes[] = "only scaffold jobs go into a book";
+
 /* The number whose groups of seven bits begin at *at, low group first; *at goes behind it. */
 static uint32_t take_number(const uint8_t *book, size_t length, size_t *at) {
     uint32_t number = 0;
@@ -33,11 +35,6 @@ uint64_t refusal_of_row(const uint32_t *numbers) {
     return rembilung_write_job(numbers, file, sizeof file);
 }
 
-void add_if_support(Text *to, const uint32_t *numbers) {
-    if (kind_of(numbers[0]) == &support)
-        text_add(to, "; 3 marks a formwork support, and only scaffold jobs go into a book");
-}
-
 /* Cut off there, a book that goes on has all its numbers, and any other lacks one. */
 static int goes_on_at(const uint8_t *book, uint32_t place) {
     static uint32_t rows[REMBILUNG_NUMBERS_OF(REMBILUNG_BOOK_ROWS_MOST)];
@@ -49,7 +46,7 @@ static void add_row(Text *to, const uint8_t *book, size_t length, uint32_t row) 
     row_of_book(book, length, row, numbers);
     text_add(to, ": ");
     explain(to, refusal_of_row(numbers), &scaffold, numbers);
-    add_if_support(to, numbers);
+    add_if_support(to, numbers, book_takes);
 }
 
 void explain_book(Text *to, uint64_t result, const uint8_t *book, size_t length) {

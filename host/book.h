@@ -17,8 +17,8 @@ void row_of_book(const uint8_t *book, size_t length, uint32_t row, uint32_t *num
 /* Which of refusals 3, 4 and 5 a row of a book has, and where; not refused where it has none. */
 uint64_t refusal_of_row(const uint32_t *numbers);
 
-/* Adds what a row is that cannot stand because it begins as a formwork support does. */
-void add_if_support(Text *to, const uint32_t *numbers);
+/* Of what kind of job a book is. */
+extern const char book_takes[];
 
 /* Says why the library would not read a book. */
 void explain_book(Text *to, uint64_t result, const uint8_t *book, size_t length);

@@ -6,6 +6,8 @@
 
 /* One job of either kind, from its numbers or a job file; the command that has no name. */
 int judge_one(Words words);
+/* A mild and a harsh scaffold job, and what holds of every job between them. */
+int between(Words words);
 /* A table of scaffold jobs, one row per facade. */
 int depot(Words words);
 /* A season's book from such a table, and back; their names have two words, book pack and book show. */

@@ -86,6 +86,11 @@ void explain_line(FILE *to, uint64_t result, const Kind *kind, const uint32_t *n
     fprintf(to, "rembilung: %s\n", words.bytes);
 }
 
+void add_if_support(Text *to, const uint32_t *numbers, const char *taken) {
+    if (kind_of(numbers[0]) == &support)
+        text_add(to, "; 3 marks a formwork support, and %s", taken);
+}
+
 void explain_number(Text *to, NumberKind kind, const char *bytes, size_t length, const Field *field) {
     text_add(to, "'");
     text_add_shown(to, bytes, length);

@@ -16,6 +16,9 @@ void explain(Text *to, uint64_t result, const Kind *kind, const uint32_t *number
 /* A refusal on a line of its own. */
 void explain_line(FILE *to, uint64_t result, const Kind *kind, const uint32_t *numbers);
 
+/* Adds, where the numbers begin as a support's do, that they are one, and what is taken instead. */
+void add_if_support(Text *to, const uint32_t *numbers, const char *taken);
+
 /* A word of any bytes that read_number did not read. */
 void explain_number(Text *to, NumberKind kind, const char *bytes, size_t length, const Field *field);
 

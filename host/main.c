@@ -46,6 +46,7 @@ static int book(Words words) {
 }
 
 static const Command commands[] = {
+    {"between", between},
     {"depot", depot},
     {"book", book},
     {"pack-sheet", pack_sheet},

@@ -6,6 +6,7 @@
 #include "book.h"
 #include "cells.h"
 #include "commands.h"
+#include "explain.h"
 #include "files.h"
 #include "refuse.h"
 #include "rows.h"
@@ -74,7 +75,7 @@ static int refuse_row(const Rows *rows, const Packing *packing, uint32_t row) {
     text_add(&answer.words, "row %" PRIu64 " of the table, row %" PRIu32 " of the book counting from 0, cannot stand: ",
              packing->from[row], row);
     explain_cells(&rows->columns, numbers, refusal_of_row(numbers), &answer);
-    add_if_support(&answer.words, numbers);
+    add_if_support(&answer.words, numbers, book_takes);
     return refuse_in_words(11, row, &answer.words);
 }
 

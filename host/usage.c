@@ -8,6 +8,7 @@
 
 static const char usage[] =
     "usage: run [--sheet FILE] [--save FILE] [NUMBER.. | FILE]\n"
+    "       run between [--sheet FILE] MILD HARSH\n"
     "       run depot [--sheet FILE] [--out FILE] TABLE\n"
     "       run depot --template\n"
     "       run book pack TABLE FILE\n"
@@ -22,6 +23,9 @@ static const char usage[] =
     "  --sheet FILE      a column sheet of one's own: 502 bytes, 251 entries in thousandths, low byte first\n"
     "                    (without it: the example sheet C, to be compared with the printed code)\n"
     "  --save FILE       once judged, also writes the job file; a file of that name is never written over\n"
+    "\n"
+    "  run between       for numbers known only between two reports, as the ground's strength: what holds of every scaffold\n"
+    "                    job between a mild and a harsh one, two job files, or 50 numbers, the mild job's 25 first\n"
     "\n"
     "  run depot TABLE   a spreadsheet of scaffold jobs exported as CSV, one row per facade, '-' for standard input; the\n"
     "                    first row has the 25 names below, in any order, or there is no such row and the numbers stand in\n"
@@ -39,6 +43,8 @@ static const char usage[] =
     "  run show FILE     prints the numbers of a job file with their names\n"
     "\n"
     "Standard output has the report, or the line 'refused', number, place; standard error says why in words.\n"
+    "Of between it has a line a check, its number, 1 passes throughout, 2 fails throughout or 3 undecided, and the same in\n"
+    "words, then 'heights', the stability height of the mild and of the harsh job; standard error says what to do.\n"
     "Exit status: 0 judged, packed or shown, 1 refused, 2 bad usage or a file that cannot be read or written.\n"
     "Of depot: 0 every row judged, 1 some row refused or unreadable, 2 bad usage, or a table or sheet that cannot be used.\n"
     "Of book pack: 2 also where a row of the table cannot be read.\n";
