@@ -30,13 +30,15 @@ typedef struct {
 enum { PAGE = LENT_MOST };
 
 /* Most books are short, and a short room is marked and looked through sooner. */
-enum { SHEET, JOB_FILE, REPORT, NUMBERS, SHORT_BOOK, LONG_BOOK, SHORT_ROWS, LONG_ROWS, PENS };
+enum { SHEET, JOB_FILE, REPORT, NUMBERS, HARSH, ANSWER, SHORT_BOOK, LONG_BOOK, SHORT_ROWS, LONG_ROWS, PENS };
 
 static Pen pens[PENS] = {
     [SHEET] = {"sheet", LENT_MOST, NULL, NULL, 0},
     [JOB_FILE] = {"job file", LENT_MOST, NULL, NULL, 0},
     [REPORT] = {"report", LENT_MOST, NULL, NULL, 0},
     [NUMBERS] = {"numbers", LENT_MOST, NULL, NULL, 0},
+    [HARSH] = {"harsh job", LENT_MOST, NULL, NULL, 0},
+    [ANSWER] = {"answer", LENT_MOST, NULL, NULL, 0},
     [SHORT_BOOK] = {"book", LENT_MOST, NULL, NULL, 0},
     [LONG_BOOK] = {"book", BOOK_LENT_MOST, NULL, NULL, 0},
     [SHORT_ROWS] = {"rows", LENT_MOST, NULL, NULL, 0},
@@ -166,6 +168,22 @@ void expect_read_book(Bytes book, size_t numbers, Answer due) {
         result_is(rembilung_read_book(from->at, book.length, (uint32_t *)to->at, numbers), due);
         holds(from, book);
         holds(to, due.written);
+    }
+}
+
+void expect_between(Bytes sheet, const uint32_t *mild, const uint32_t *harsh, Answer due) {
+    Bytes mild_bytes = {mild, REMBILUNG_NUMBERS * sizeof *mild}, harsh_bytes = {harsh, REMBILUNG_NUMBERS * sizeof *harsh};
+    for (int way = 0; way < WAYS; way++) {
+        lend(&pens[SHEET], sheet, sheet.length, way);
+        lend(&pens[NUMBERS], mild_bytes, mild_bytes.length, way);
+        lend(&pens[HARSH], harsh_bytes, harsh_bytes.length, way);
+        lend(&pens[ANSWER], (Bytes){NULL, 0}, REMBILUNG_BETWEEN_NUMBERS * sizeof(uint32_t), way);
+        result_is(rembilung_between(pens[SHEET].at, sheet.length, (const uint32_t *)pens[NUMBERS].at,
+                                    (const uint32_t *)pens[HARSH].at, (uint32_t *)pens[ANSWER].at), due);
+        holds(&pens[SHEET], sheet);
+        holds(&pens[NUMBERS], mild_bytes);
+        holds(&pens[HARSH], harsh_bytes);
+        holds(&pens[ANSWER], due.written);
     }
 }
 

@@ -46,6 +46,8 @@ void expect_read(Bytes file, Answer due);
 void expect_write_book(Bytes rows, size_t numbers, size_t book_length, Answer due);
 /* Room for whole rows is lent, as many as so many numbers have, and the call is told of all the numbers. */
 void expect_read_book(Bytes book, size_t numbers, Answer due);
+/* Of a mild and a harsh job; what is written are the numbers of the answer. */
+void expect_between(Bytes sheet, const uint32_t *mild, const uint32_t *harsh, Answer due);
 /* The whole call where only acceptance is known: the report that it wrote, whose length is returned, 0 on a refusal. */
 size_t expect_judged(Bytes sheet, Bytes file, uint8_t *report);
 

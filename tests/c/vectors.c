@@ -55,6 +55,15 @@ typedef struct {
     Answer due;
 } BookVector;
 
+/* A mild and a harsh job under one of the sheets. */
+typedef struct {
+    const char *from;
+    int line;
+    int sheet;
+    uint32_t mild[REMBILUNG_NUMBERS], harsh[REMBILUNG_NUMBERS];
+    Answer due;
+} BetweenVector;
+
 /* A sheet to be judged with job J: the refusal due, or 0 where it stands. */
 typedef struct {
     int line;
@@ -263,6 +272,14 @@ static size_t all_book_reads(const BookVector *rows, size_t count) {
     return count;
 }
 
+static size_t all_betweens(const BetweenVector *rows, size_t count) {
+    for (size_t k = 0; k < count; k++) {
+        case_begins("%s:%d: between", rows[k].from, rows[k].line);
+        expect_between(sheets[rows[k].sheet], rows[k].mild, rows[k].harsh, rows[k].due);
+    }
+    return count;
+}
+
 /* Counted, since no compiler says that a table which stands in an included file is left out. */
 static void all_requests(void) {
     size_t run = all_of(request_verdicts, COUNT(request_verdicts));
@@ -272,6 +289,7 @@ static void all_requests(void) {
     run += all_file_verdicts(request_verdict_files, COUNT(request_verdict_files));
     run += all_book_writes(request_write_books, COUNT(request_write_books));
     run += all_book_reads(request_read_books, COUNT(request_read_books));
+    run += all_betweens(request_betweens, COUNT(request_betweens));
     case_begins("%d cases of request-NN.txt", REQUEST_CASES);
     if (run != REQUEST_CASES)
         differs("only %zu are run", run);

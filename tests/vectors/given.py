@@ -30,6 +30,8 @@ HEXADECIMAL_RUN = r"([0-9a-f]{2})+(\*[0-9]{1,4})?"
 BOOK = rf"-|{HEXADECIMAL_RUN}( {HEXADECIMAL_RUN})*"
 ROW_RUN = rf"{NUMBER_ROW}( \*[0-9]{{1,4}})?"
 ROWS = rf"-|{ROW_RUN}( / {ROW_RUN})*"
+# What holds of every job between two: an outcome for each of the twelve checks, and two heights.
+OUTCOMES = r"([123] ){12}[0-9]{1,10} [0-9]{1,10}"
 # Sheet T of document 01.
 T = [max(1000 - 4 * k, 150) for k in range(ENTRIES)]
 # Support S, worked out by hand from clause 5.6, and its report under sheet T; request-05.txt gives the same.
@@ -65,6 +67,8 @@ FileVerdict = collections.namedtuple("FileVerdict", "file line sheet data room a
 BookWriting = collections.namedtuple("BookWriting", "file line numbers room answer")
 # A case of reading one: its bytes, room for how many numbers, and the answer as text.
 BookReading = collections.namedtuple("BookReading", "file line data room answer")
+# A case of a mild and a harsh job: the bytes of its sheet, the numbers of both, and the answer as text.
+Between = collections.namedtuple("Between", "file line sheet mild harsh answer")
 
 
 class Fault(Exception):
@@ -362,10 +366,18 @@ def book_reading_of(case):
     return BookReading(case.file, case.line, book_in(case, data), room_in(case, room), due)
 
 
+def between_of(case):
+    """The case of a line between;SHEET;MILD;HARSH;ANSWER."""
+    name, mild, harsh, answer = parts_of(case, "SHEET;MILD;HARSH;ANSWER")
+    due = answer_in(case, answer, OUTCOMES, "twelve outcomes and two heights")
+    ends = [numbers_in(case, text, NUMBERS) for text in (mild, harsh)]
+    return Between(case.file, case.line, sheet_in(case, name), *ends, due)
+
+
 # By the word of a call: what makes its case of a line.
 CALLS = {"verdict": verdict_of, "write_job": writing_of(NUMBERS), "write_support": writing_of(SUPPORT_NUMBERS),
          "read_job": reading_of, "verdict_file": file_verdict_of, "write_book": book_writing_of,
-         "read_book": book_reading_of}
+         "read_book": book_reading_of, "between": between_of}
 
 
 def cases_of_call(word):
