@@ -24,12 +24,14 @@ static void *zeros(size_t length) {
 
 static void sheet_of_length(size_t length, uint32_t place) {
     uint8_t report[REMBILUNG_REPORT_MOST];
+    uint32_t answer[REMBILUNG_BETWEEN_NUMBERS];
     File j = file_of(&scaffold, job_j);
     Sheet t = sheet_t();
     uint8_t *sheet = zeros(length);
     memcpy(sheet, t.bytes, sizeof t.bytes);
     case_begins("sheet of %zu bytes", length);
     result_is(rembilung_verdict(sheet, length, j.bytes, file_bytes(&j).length, report, sizeof report), refused(1, place));
+    result_is(rembilung_between(sheet, length, job_j, job_j, answer), refused(1, place));
     munmap(sheet, length);
 }
 

@@ -1,5 +1,5 @@
 // Calls every function of the header from C++, the header included first and twice; exit status 0 where job J is judged, and a
-// support goes to a file and back, and J to a book and back.
+// support goes to a file and back, J to a book and back, and J stands at both ends.
 #include "rembilung.h"
 #include "rembilung.h"
 
@@ -25,6 +25,14 @@ static bool book_goes_round() {
     return made == 39 && read == 1 && rows[REMBILUNG_NUMBERS_OF(0) + REMBILUNG_PAD_AREA] == 2000;
 }
 
+/* Under the sheet whose every factor is 1, check 11 alone fails at both ends. */
+static bool ends_are_told(const uint8_t sheet[REMBILUNG_SHEET_BYTES]) {
+    uint32_t answer[REMBILUNG_BETWEEN_NUMBERS];
+    uint64_t told = rembilung_between(sheet, REMBILUNG_SHEET_BYTES, job_j, job_j, answer);
+    return told == REMBILUNG_BETWEEN_NUMBERS && answer[10] == REMBILUNG_FAILS_THROUGHOUT &&
+           answer[0] == REMBILUNG_PASSES_THROUGHOUT && answer[REMBILUNG_BETWEEN_HARSH_HEIGHT] != REMBILUNG_NONE;
+}
+
 int main() {
     uint8_t sheet[REMBILUNG_SHEET_BYTES], file[REMBILUNG_FILE_MOST], report[REMBILUNG_REPORT_MOST];
     uint32_t numbers[REMBILUNG_NUMBERS];
@@ -35,5 +43,8 @@ int main() {
         return 1;
     uint64_t done = rembilung_verdict(sheet, sizeof sheet, file, (size_t)made, report, sizeof report);
     bool judged = rembilung_refusal(done) == 0 && rembilung_place(done) == done;
-    return numbers[REMBILUNG_PAD_AREA] == 2000 && judged && support_goes_round() && book_goes_round() ? 0 : 1;
+    return numbers[REMBILUNG_PAD_AREA] == 2000 && judged && support_goes_round() && book_goes_round() &&
+                   ends_are_told(sheet)
+               ? 0
+               : 1;
 }

@@ -3,6 +3,7 @@
 #include <string.h>
 
 #include "check.h"
+#include "ends.h"
 #include "paper.h"
 #include "parts.h"
 
@@ -32,6 +33,25 @@ static void test_addresses(Judged job) {
         at_address(job, shift);
 }
 
+/* Numbers begin where C puts them, at every such distance from a multiple of 16; the sheet at every distance. */
+static void ends_at_address(size_t shift) {
+    static uint32_t mild[32], harsh[32], answer[32];
+    static uint8_t room[544];
+    size_t numbers = shift % 4;
+    uint8_t *sheet = aligned(room) + shift;
+    Sheet t = sheet_t();
+    Answer due = outcomes_j();
+    memcpy(sheet, t.bytes, sizeof t.bytes);
+    memcpy(mild + numbers, job_j, sizeof job_j);
+    memcpy(harsh + (numbers + shift / 4) % 4, job_j, sizeof job_j);
+    memset(answer, 0, sizeof answer);
+    case_begins("J at both ends, its numbers %zu and %zu numbers into a buffer, the sheet %zu bytes after a multiple of 16", numbers,
+                (numbers + shift / 4) % 4, shift);
+    result_is(rembilung_between(sheet, sizeof t.bytes, mild + numbers, harsh + (numbers + shift / 4) % 4, answer + numbers), due);
+    if (memcmp(answer + numbers, due.written.at, due.written.length) != 0)
+        differs("the answer is not J's");
+}
+
 static void test_judged(Judged job) {
     Sheet t = sheet_t();
     File file = file_of(job.kind, job.numbers);
@@ -55,6 +75,8 @@ int main(int count, char **words) {
     test_judged(judged_support());
     test_addresses(judged_j());
     test_addresses(judged_support());
+    for (size_t shift = 0; shift < 16; shift++)
+        ends_at_address(shift);
     test_sheets();
     test_files();
     test_ranges();
@@ -62,6 +84,7 @@ int main(int count, char **words) {
     test_supports();
     test_books();
     test_book_order();
+    test_between();
     test_great_lengths(within_128_gib);
     test_vectors();
     return cases_end();

@@ -2,6 +2,7 @@
 #include <string.h>
 
 #include "check.h"
+#include "ends.h"
 #include "paper.h"
 #include "parts.h"
 
@@ -56,6 +57,14 @@ static void in_book(const Job *job, int accepted) {
     expect_read_book(bytes, REMBILUNG_NUMBERS_OF(2), accepted ? gives(2, lent) : refused(11, 1));
 }
 
+/* The job as the mild end and as the harsh, beside one that stands, and at both. */
+static void ends_refused(const Job *job, uint32_t refusal, uint32_t place) {
+    Sheet t = sheet_t();
+    expect_between(sheet_bytes(&t), job->numbers, job_j, refused(refusal, place));
+    expect_between(sheet_bytes(&t), job_j, job->numbers, refused(refusal, REMBILUNG_NUMBERS + place));
+    expect_between(sheet_bytes(&t), job->numbers, job->numbers, refused(refusal, place));
+}
+
 static void job_refused(Job job, uint32_t refusal, uint32_t place) {
     Sheet t = sheet_t();
     File file = file_of(job.kind, job.numbers);
@@ -64,8 +73,10 @@ static void job_refused(Job job, uint32_t refusal, uint32_t place) {
     expect_write(job.kind, job.numbers, job.kind->file_most, refused(refusal, place));
     expect_read(file_bytes(&file), due);
     expect_verdict(sheet_bytes(&t), file_bytes(&file), REMBILUNG_REPORT_MOST, due);
-    if (job.kind == &scaffold)
-        in_book(&job, 0);
+    if (job.kind != &scaffold)
+        return;
+    in_book(&job, 0);
+    ends_refused(&job, refusal, place);
 }
 
 static void job_accepted(Job job) {
@@ -76,8 +87,10 @@ static void job_accepted(Job job) {
     expect_write(job.kind, job.numbers, bytes.length, gives((uint32_t)bytes.length, bytes));
     expect_read(bytes, gives((uint32_t)job.kind->count, numbers));
     expect_judged(sheet_bytes(&t), bytes, report);
-    if (job.kind == &scaffold)
-        in_book(&job, 1);
+    if (job.kind != &scaffold)
+        return;
+    in_book(&job, 1);
+    expect_between(sheet_bytes(&t), job.numbers, job.numbers, outcomes_of_reports(sheet_bytes(&t), job.numbers, job.numbers));
 }
 
 static void outside(const Range *range, uint32_t value) {

@@ -2,14 +2,17 @@
 #include <string.h>
 
 #include "check.h"
+#include "ends.h"
 #include "paper.h"
 #include "parts.h"
 
 enum { LAST = 250, LONGEST = 1100 };
 
+/* J under a sheet: judged, and at both ends. */
 static void judged_as(Bytes sheet, Answer due) {
     File j = file_of(&scaffold, job_j);
     expect_verdict(sheet, file_bytes(&j), REMBILUNG_REPORT_MOST, due);
+    expect_between(sheet, job_j, job_j, due.refusal == 0 ? outcomes_j() : due);
 }
 
 /* Bytes of sheet T with zeros behind, so that a longer sheet is refused for its length alone. */
@@ -61,11 +64,9 @@ static Sheet level(uint32_t thousandths, uint32_t last) {
 }
 
 static void level_stands(uint32_t thousandths, uint32_t last) {
-    uint8_t report[REMBILUNG_REPORT_MOST];
     Sheet sheet = level(thousandths, last);
-    File j = file_of(&scaffold, job_j);
     case_begins("sheet of %u throughout, last entry %u", (unsigned)thousandths, (unsigned)last);
-    expect_judged(sheet_bytes(&sheet), file_bytes(&j), report);
+    expect_between(sheet_bytes(&sheet), job_j, job_j, outcomes_of_reports(sheet_bytes(&sheet), job_j, job_j));
 }
 
 static void level_refused(uint32_t thousandths, uint32_t last, uint32_t place) {
