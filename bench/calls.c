@@ -6,16 +6,17 @@
 #include <string.h>
 
 Verdict plain_verdict_gcc, plain_verdict_clang;
+Between plain_between_gcc, plain_between_clang;
 WriteBook plain_write_book_gcc, plain_write_book_clang;
 ReadBook plain_read_book_gcc, plain_read_book_clang;
 
 const Version versions[] = {
-    {"library", rembilung_verdict, rembilung_write_book, rembilung_read_book},
+    {"library", rembilung_verdict, rembilung_between, rembilung_read_job, rembilung_write_book, rembilung_read_book},
 #ifdef WITH_GCC
-    {"C gcc -O3", plain_verdict_gcc, plain_write_book_gcc, plain_read_book_gcc},
+    {"C gcc -O3", plain_verdict_gcc, plain_between_gcc, NULL, plain_write_book_gcc, plain_read_book_gcc},
 #endif
 #ifdef WITH_CLANG
-    {"C clang -O3", plain_verdict_clang, plain_write_book_clang, plain_read_book_clang},
+    {"C clang -O3", plain_verdict_clang, plain_between_clang, NULL, plain_write_book_clang, plain_read_book_clang},
 #endif
 };
 const int version_count = sizeof versions / sizeof versions[0];
@@ -25,7 +26,7 @@ enum { BEYOND = 64 };
 /* Where the calls write; all of it is compared. */
 typedef struct {
     uint8_t report[REMBILUNG_REPORT_MOST + BEYOND], book[REMBILUNG_BOOK_MOST + BEYOND];
-    uint32_t rows[REMBILUNG_NUMBERS * REMBILUNG_BOOK_ROWS_MOST + BEYOND];
+    uint32_t rows[REMBILUNG_NUMBERS * REMBILUNG_BOOK_ROWS_MOST + BEYOND], answer[REMBILUNG_BETWEEN_NUMBERS + BEYOND];
 } Written;
 
 static Written to;
@@ -50,21 +51,88 @@ static uint64_t pass_books(const Version *version, const List *list) {
     return sum;
 }
 
+static uint64_t pass_pairs(const Version *version, const List *list) {
+    uint64_t sum = 0;
+    for (int k = 0; k < list->count; k++) {
+        const PairInput *in = &list->pair[k];
+        sum += version->between(in->sheet, in->sheet_len, in->mild, in->harsh, to.answer);
+    }
+    return sum;
+}
+
+static uint64_t two_calls(const Version *version, const List *list, size_t room) {
+    uint64_t sum = 0;
+    for (int k = 0; k < list->count; k++) {
+        const PairInput *in = &list->pair[k];
+        sum += version->verdict(in->sheet, in->sheet_len, in->mild_file, in->mild_len, to.report, room);
+        sum += version->verdict(in->sheet, in->sheet_len, in->harsh_file, in->harsh_len, to.report, room);
+    }
+    return sum;
+}
+
+static uint64_t pass_two_calls(const Version *version, const List *list) {
+    return two_calls(version, list, REMBILUNG_REPORT_MOST);
+}
+
+static uint64_t pass_into_no_room(const Version *version, const List *list) {
+    return two_calls(version, list, 0);
+}
+
+static uint64_t pass_two_readings(const Version *version, const List *list) {
+    uint64_t sum = 0;
+    for (int k = 0; k < list->count; k++) {
+        sum += version->read_job(list->pair[k].mild_file, list->pair[k].mild_len, to.rows);
+        sum += version->read_job(list->pair[k].harsh_file, list->pair[k].harsh_len, to.rows);
+    }
+    return sum;
+}
+
+/* Once a pair: a file of no bytes is refused as soon as it is read. */
+static uint64_t pass_sheet_alone(const Version *version, const List *list) {
+    uint64_t sum = 0;
+    for (int k = 0; k < list->count; k++)
+        sum += version->verdict(list->pair[k].sheet, list->pair[k].sheet_len, list->pair[k].mild_file, 0, to.report, 0);
+    return sum;
+}
+
 const BookClass *book_class_of(int which) {
-    return which > MIXED ? &book_classes[which - MIXED - 1] : NULL;
+    return which >= BOOK_LISTS && which < PAIR_LISTS ? &book_classes[which - BOOK_LISTS] : NULL;
 }
 
 static List list_of_books(int which) {
     const BookClass *class = book_class_of(which);
-    return (List){class->name, class->writes ? "write_book" : "read_book", class->count, class->writes, {0},
-                  books[which - MIXED - 1], pass_books};
+    return (List){class->name, class->writes ? "write_book" : "read_book", version_count, class->count, class->writes, {0},
+                  books[which - BOOK_LISTS], NULL, pass_books};
+}
+
+static List list_of_pairs(int class) {
+    return (List){pair_classes[class].name, "between", version_count, PAIRS, 0, {0}, NULL, pairs[class], pass_pairs};
+}
+
+/* Of the library alone: its call on two jobs is held to its calls on one. */
+static List list_of_part(int part) {
+    static const struct {
+        const char *name, *call;
+        uint64_t (*pass)(const Version *, const List *);
+    } parts[PARTS] = {
+        [TWO_CALLS] = {"two whole calls on their files", "verdict", pass_two_calls},
+        [INTO_NO_ROOM] = {"the same into no room", "verdict", pass_into_no_room},
+        [TWO_READINGS] = {"both files read", "read_job", pass_two_readings},
+        [SHEET_ALONE] = {"the sheet before a file of no bytes", "verdict", pass_sheet_alone},
+    };
+    return (List){parts[part].name, parts[part].call, 1, PAIRS, 0, {0}, NULL, pairs[0], parts[part].pass};
 }
 
 List list_of(int which) {
-    if (which > MIXED)
+    if (which >= PART_LISTS)
+        return list_of_part(which - PART_LISTS);
+    if (which >= PAIR_LISTS)
+        return list_of_pairs(which - PAIR_LISTS);
+    if (which >= BOOK_LISTS)
         return list_of_books(which);
     int mixed = which == MIXED;
-    List list = {mixed ? "mix" : classes[which].name, "verdict", mixed ? MIX : PER_CLASS, 0, {0}, NULL, pass_verdicts};
+    List list = {mixed ? "mix" : classes[which].name, "verdict", version_count, mixed ? MIX : PER_CLASS, 0, {0}, NULL, NULL,
+                 pass_verdicts};
     for (int k = 0; k < list.count; k++)
         list.input[k] = mixed ? mix[k] : &inputs[which][k];
     return list;
@@ -75,7 +143,8 @@ int share_of(int which) {
 }
 
 int has_aim(int which) {
-    return which > MIXED ? book_class_of(which)->has_aim : which == MIXED;
+    const BookClass *class = book_class_of(which);
+    return class != NULL ? class->has_aim : which == MIXED;
 }
 
 /* What is packed of the rows, whatever room the call is lent. */
@@ -91,10 +160,12 @@ double bytes_of(int which) {
 static uint64_t answer(const Version *version, const List *list, int k, Written *written) {
     List one = *list;
     one.count = 1;
-    if (list->book == NULL)
-        one.input[0] = list->input[k];
-    else
+    if (list->book != NULL)
         one.book = list->book + k;
+    else if (list->pair != NULL)
+        one.pair = list->pair + k;
+    else
+        one.input[0] = list->input[k];
     memset(&to, 0xA5, sizeof to);
     uint64_t result = one.pass(version, &one);
     *written = to;
@@ -124,17 +195,22 @@ static void compare(const List *list, int k) {
     }
 }
 
-/* The mix has inputs of the classes alone. */
+/* The mix has inputs of the classes alone, and what is done with pairs by the calls on one job the library does alone. */
 static void compare_list(int which) {
     List list = list_of(which);
     for (int k = 0; k < list.count; k++)
         compare(&list, k);
 }
 
-void make_and_compare(void) {
+void make_all(void) {
     make_inputs();
     make_books();
-    for (int which = 0; which < LISTS; which++)
+    make_pairs();
+}
+
+void make_and_compare(void) {
+    make_all();
+    for (int which = 0; which < PART_LISTS; which++)
         if (which != MIXED)
             compare_list(which);
 }

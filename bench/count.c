@@ -18,11 +18,16 @@ static int number(const char *word, int most) {
     return (int)value;
 }
 
-/* A list, for the scripts: name, call, inputs, share of the mix, bytes of a book, whether it has an aim. */
+static const char *kind_of(int which) {
+    return which >= PART_LISTS ? "parts" : which >= PAIR_LISTS ? "pairs" : which >= BOOK_LISTS ? "books" : "calls";
+}
+
+/* A list, for the scripts: name, kind, call, inputs, share of the mix, bytes of a book, whether it has an aim. */
 static void show_list(int which) {
     List list = list_of(which);
     double bytes = book_class_of(which) == NULL ? 0 : bytes_of(which);
-    printf("list;%s;%s;%d;%d;%.0f;%d\n", list.name, list.call, list.count, share_of(which), bytes, has_aim(which));
+    printf("list;%s;%s;%s;%d;%d;%.0f;%d\n", list.name, kind_of(which), list.call, list.count, share_of(which), bytes,
+           has_aim(which));
 }
 
 static void show_versions(void) {
@@ -35,11 +40,6 @@ static int show_lists(void) {
     for (int k = 0; k < LISTS; k++)
         show_list(k);
     return 0;
-}
-
-static void make_all(void) {
-    make_inputs();
-    make_books();
 }
 
 int main(int words, char **word) {
@@ -55,7 +55,7 @@ int main(int words, char **word) {
         usage();
     make_all();
     List list = list_of(number(word[2], LISTS - 1));
-    volatile uint64_t sum = send(&versions[number(word[1], version_count - 1)], &list, 1);
+    volatile uint64_t sum = send(&versions[number(word[1], list.versions - 1)], &list, 1);
     (void)sum;
     return 0;
 }

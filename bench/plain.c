@@ -1,5 +1,5 @@
-/* The whole call in plain C, from document 01 and requests 1, 2 and 5 of document 02 as docs/DECISIONS.md reads them: what the
- * library is measured against.
+/* The calls that judge in plain C, from document 01 and requests 1, 2, 5 and 6 of document 02 as docs/DECISIONS.md reads them:
+ * what the library's are measured against.
  *
  * Whole numbers throughout, each formula cleared of its fractions. Lengths are in cm, as in the job. The stability height
  * is found by division, a quotient for each of the two pole checks, and not by a search: that is the shorter way. */
@@ -339,4 +339,75 @@ uint64_t plain_verdict(const uint8_t *sheet, size_t sheet_len, const uint8_t *fi
         return refuse(8, length);
     memcpy(report, text, length);
     return length;
+}
+
+enum { PASSES_THROUGHOUT = 1, FAILS_THROUGHOUT = 2, UNDECIDED = 3, FAILS = 2 };
+
+/* What is asked of a field of the harsh job. */
+typedef enum { ALIKE, NO_SMALLER, NO_GREATER, BY_FACTOR, FREE } Order;
+
+static const Order order[NUMBERS] = {
+    ALIKE,      ALIKE,      NO_SMALLER, NO_SMALLER, NO_SMALLER, NO_SMALLER, NO_SMALLER, ALIKE,      NO_SMALLER,
+    NO_SMALLER, NO_SMALLER, NO_SMALLER, NO_SMALLER, NO_SMALLER, NO_SMALLER, NO_SMALLER, ALIKE,      NO_SMALLER,
+    ALIKE,      FREE,       FREE,       NO_GREATER, BY_FACTOR,  NO_GREATER, NO_GREATER};
+
+static int is_harsher(Order asked, uint32_t mild, uint32_t harsh) {
+    switch (asked) {
+    case ALIKE:
+        return harsh == mild;
+    case NO_SMALLER:
+        return harsh >= mild;
+    case NO_GREATER:
+        return harsh <= mild;
+    case BY_FACTOR:
+        return soil_tenths[harsh - 1] <= soil_tenths[mild - 1];
+    default:
+        return 1;
+    }
+}
+
+/* Refusal 12, or 0. */
+static uint64_t examine_order(const uint32_t *mild, const uint32_t *harsh) {
+    for (int k = 0; k < NUMBERS; k++)
+        if (!is_harsher(order[k], mild[k], harsh[k]))
+            return refuse(12, (uint64_t)k + 1);
+    return 0;
+}
+
+/* The mild job's refusals, then the harsh job's with places behind them, then 12. */
+static uint64_t examine_ends(const uint32_t *mild, const uint32_t *harsh, Job *mild_job, Job *harsh_job) {
+    memcpy(mild_job, mild, sizeof *mild_job);
+    memcpy(harsh_job, harsh, sizeof *harsh_job);
+    uint64_t refusal = examine_job(mild, mild_job);
+    if (refusal != 0)
+        return refusal;
+    refusal = examine_job(harsh, harsh_job);
+    return refusal != 0 ? refusal + NUMBERS : examine_order(mild, harsh);
+}
+
+static uint32_t outcome_of(int mild, int harsh) {
+    if (harsh != FAILS)
+        return PASSES_THROUGHOUT;
+    return mild == FAILS ? FAILS_THROUGHOUT : UNDECIDED;
+}
+
+static uint32_t height_of(const Judgement *g) {
+    return g->stability == NO_HEIGHT ? UINT32_MAX : (uint32_t)g->stability;
+}
+
+uint64_t plain_between(const uint8_t *sheet, size_t sheet_len, const uint32_t *mild, const uint32_t *harsh, uint32_t *answer) {
+    Job mild_job, harsh_job;
+    Judgement at_mild, at_harsh;
+    uint64_t refusal = examine_sheet(sheet, sheet_len);
+    if (refusal == 0)
+        refusal = examine_ends(mild, harsh, &mild_job, &harsh_job);
+    if (refusal != 0)
+        return refusal;
+    judge(sheet, &mild_job, &at_mild);
+    judge(sheet, &harsh_job, &at_harsh);
+    for (int k = 0; k < CHECKS; k++)
+        answer[k] = outcome_of(at_mild.verdict[k], at_harsh.verdict[k]);
+    answer[CHECKS] = height_of(&at_mild);
+    answer[CHECKS + 1] = height_of(&at_harsh);
+    return CHECKS + 2;
 }

@@ -1,4 +1,4 @@
-/* The whole call and the calls on a book in plain C, to measure the library against: same arguments, answers and bytes. */
+/* The calls that judge and the calls on a book in plain C, to measure the library against: same arguments, answers and bytes. */
 #ifndef PLAIN_H
 #define PLAIN_H
 
@@ -8,6 +8,9 @@
 uint64_t plain_verdict(const uint8_t *sheet, size_t sheet_len,
                        const uint8_t *file, size_t file_len,
                        uint8_t *report, size_t report_len);
+uint64_t plain_between(const uint8_t *sheet, size_t sheet_len,
+                       const uint32_t *mild, const uint32_t *harsh,
+                       uint32_t *answer);
 uint64_t plain_write_book(const uint32_t *rows, size_t numbers,
                           uint8_t *book, size_t book_len);
 uint64_t plain_read_book(const uint8_t *book, size_t book_len,

@@ -1,9 +1,10 @@
 /* Sends jobs one by one through an exported call, for the count of each call by itself: single CALL [step] < jobs.
  *
  * A line of jobs is a sheet's number (bench/vary.h) and the 25 numbers, or for write_support the 13. For a call on books it is
- * the number of rows, and the 25 numbers of each. With "step" each call's instructions are counted by the processor's step
+ * the number of rows, and the 25 numbers of each. For the call on two jobs the one job is both ends: what the call takes of two
+ * ends is what it takes of each, and a job is accepted as the harsh end of itself. With "step" each call's instructions are counted by the processor's step
  * trap and printed, the library's own and those of the memory functions. "single CALL inputs" sends every input of
- * bench/inputs.c, or of bench/books.c, instead, and prints its class, and the numbers and the file where it is a job. */
+ * bench/inputs.c, of bench/books.c or of bench/pairs.c instead, and prints its class, and its numbers and file where it is a job. */
 #define _GNU_SOURCE
 #include <signal.h>
 #include <stdio.h>
@@ -12,13 +13,14 @@
 #include <ucontext.h>
 
 #include "books.h"
+#include "pairs.h"
 #include "vary.h"
 
 #ifndef __x86_64__
 #error "instructions are counted by the x86-64 trap flag; measure another processor by its own means"
 #endif
 
-enum { VERDICT, WRITE, READ, WRITE_SUPPORT, WRITE_BOOK, READ_BOOK, CALLS };
+enum { VERDICT, WRITE, READ, WRITE_SUPPORT, WRITE_BOOK, READ_BOOK, BETWEEN, CALLS };
 /* A number that no field takes may have five bytes. */
 enum { ROWS_MOST = REMBILUNG_BOOK_ROWS_MOST, BOOK_ROOM = 5 * REMBILUNG_NUMBERS * ROWS_MOST + 2 };
 
@@ -59,7 +61,8 @@ __attribute__((noinline)) static void call_it(const void *function, const uint64
 static void send(int which, const uint64_t argument[6], int step) {
     const uintptr_t function[CALLS] = {(uintptr_t)rembilung_verdict,       (uintptr_t)rembilung_write_job,
                                        (uintptr_t)rembilung_read_job,      (uintptr_t)rembilung_write_support,
-                                       (uintptr_t)rembilung_write_book,    (uintptr_t)rembilung_read_book};
+                                       (uintptr_t)rembilung_write_book,    (uintptr_t)rembilung_read_book,
+                                       (uintptr_t)rembilung_between};
     own = lent = 0;
     entry = function[which];
     call_it((const void *)entry, argument, step ? 0x100 : 0);
@@ -86,9 +89,15 @@ static void send_book(int which, const BookInput *in, int step) {
     send(which, which == WRITE_BOOK ? writing : reading, step);
 }
 
+static void send_pair(const uint8_t *sheet, const uint32_t *mild, const uint32_t *harsh, int step) {
+    uint32_t answer[REMBILUNG_BETWEEN_NUMBERS];
+    const uint64_t argument[6] = {(uintptr_t)sheet, REMBILUNG_SHEET_BYTES, (uintptr_t)mild, (uintptr_t)harsh, (uintptr_t)answer};
+    send(BETWEEN, argument, step);
+}
+
 static void usage(void) {
     fprintf(stderr, "usage: single CALL [step] < jobs, or single CALL inputs; CALL is 0 verdict, 1 write_job, 2 read_job, "
-                    "3 write_support, 4 write_book, 5 read_book\n");
+                    "3 write_support, 4 write_book, 5 read_book, 6 between\n");
     exit(2);
 }
 
@@ -128,11 +137,15 @@ static int next_book(BookInput *in) {
     return 1;
 }
 
+static void show_numbers(const uint32_t *numbers) {
+    for (int k = 0; k < REMBILUNG_NUMBERS; k++)
+        printf(k == 0 ? "%u" : " %u", numbers[k]);
+    printf(";");
+}
+
 static void show_input(int class, const Input *in) {
     printf("%s;", classes[class].name);
-    for (int k = 0; k < REMBILUNG_NUMBERS; k++)
-        printf(k == 0 ? "%u" : " %u", in->numbers[k]);
-    printf(";");
+    show_numbers(in->numbers);
     for (size_t k = 0; k < in->file_len; k++)
         printf("%02x", in->file[k]);
     printf("\n");
@@ -157,16 +170,41 @@ static void send_books(int which) {
         send_class(which, class);
 }
 
+static void send_pairs(void) {
+    for (int k = 0; k < PAIR_CLASSES * PAIRS; k++) {
+        const PairInput *in = &pairs[k / PAIRS][k % PAIRS];
+        send_pair(in->sheet, in->mild, in->harsh, 0);
+        printf("%s;", pair_classes[k / PAIRS].name);
+        show_numbers(in->mild);
+        show_numbers(in->harsh);
+        printf("\n");
+    }
+}
+
 static void send_job_lines(int which, int step) {
     static Input in;
     while (next_job(&in, which == WRITE_SUPPORT ? REMBILUNG_SUPPORT_NUMBERS : REMBILUNG_NUMBERS))
-        send_job(which, &in, step);
+        if (which == BETWEEN)
+            send_pair(in.sheet, in.numbers, in.numbers, step);
+        else
+            send_job(which, &in, step);
 }
 
 static void send_book_lines(int which, int step) {
     BookInput in;
     while (next_book(&in))
         send_book(which, &in, step);
+}
+
+static int is_of_books(int which) {
+    return which == WRITE_BOOK || which == READ_BOOK;
+}
+
+static void send_inputs(int which) {
+    if (which == BETWEEN)
+        send_pairs();
+    else
+        (is_of_books(which) ? send_books : send_jobs)(which);
 }
 
 int main(int words, char **word) {
@@ -178,9 +216,10 @@ int main(int words, char **word) {
     sigaction(SIGTRAP, &action, NULL);
     make_inputs();
     make_books();
+    make_pairs();
     if (whole)
-        (which < WRITE_BOOK ? send_jobs : send_books)(which);
+        send_inputs(which);
     else
-        (which < WRITE_BOOK ? send_job_lines : send_book_lines)(which, step);
+        (is_of_books(which) ? send_book_lines : send_job_lines)(which, step);
     return 0;
 }

@@ -3,6 +3,7 @@
 #include <string.h>
 
 #include "books.h"
+#include "pairs.h"
 #include "vary.h"
 
 #ifndef __x86_64__
@@ -10,7 +11,7 @@
 #endif
 
 enum { ROOM = 16384, RANDOM = 20000, RANDOM_BOOKS = 2000 };
-enum { VERDICT, WRITE_JOB, READ_JOB, WRITE_SUPPORT, WRITE_BOOK, READ_BOOK, CALLS };
+enum { VERDICT, WRITE_JOB, READ_JOB, WRITE_SUPPORT, WRITE_BOOK, READ_BOOK, BETWEEN, CALLS };
 /* A number that no field takes is longer than any that a book has. */
 enum { ROWS_MOST = REMBILUNG_BOOK_ROWS_MOST, BOOK_ROOM = REMBILUNG_BOOK_MOST + 8 };
 
@@ -28,6 +29,7 @@ static Depth depths[CALLS] = {
     [VERDICT] = {"rembilung_verdict", 0, 0, ""},       [WRITE_JOB] = {"rembilung_write_job", 0, 0, ""},
     [READ_JOB] = {"rembilung_read_job", 0, 0, ""},     [WRITE_SUPPORT] = {"rembilung_write_support", 0, 0, ""},
     [WRITE_BOOK] = {"rembilung_write_book", 0, 0, ""}, [READ_BOOK] = {"rembilung_read_book", 0, 0, ""},
+    [BETWEEN] = {"rembilung_between", 0, 0, ""},
 };
 
 /* Calls a function of up to six arguments on the painted stack; its return address is the first thing there. */
@@ -139,13 +141,45 @@ static void measure_all_books(void) {
         measure_random_book();
 }
 
+static void measure_pair(const uint8_t *sheet, size_t sheet_len, const uint32_t *mild, const uint32_t *harsh, const char *where) {
+    uint32_t answer[REMBILUNG_BETWEEN_NUMBERS];
+    const uint64_t arguments[6] = {(uintptr_t)sheet, sheet_len, (uintptr_t)mild, (uintptr_t)harsh, (uintptr_t)answer};
+    keep(BETWEEN, depth_of((const void *)(uintptr_t)rembilung_between, arguments), where);
+}
+
+/* Half of them are any two jobs, which mostly are no mild and harsh one. */
+static void measure_random_pair(void) {
+    uint32_t mild[REMBILUNG_NUMBERS], harsh[REMBILUNG_NUMBERS];
+    any_job(mild);
+    any_job(harsh);
+    if (from_to(0, 1) == 0)
+        make_harsh(mild, harsh);
+    measure_pair(sheet_number((int)from_to(0, SHEETS - 1)), REMBILUNG_SHEET_BYTES, mild, harsh, "random and limit pairs");
+}
+
+static void measure_pairs(void) {
+    for (int k = 0; k < PAIR_CLASSES * PAIRS; k++) {
+        const PairInput *in = &pairs[k / PAIRS][k % PAIRS];
+        measure_pair(in->sheet, in->sheet_len, in->mild, in->harsh, pair_classes[k / PAIRS].name);
+    }
+    /* Every bad sheet of the whole calls too. */
+    for (int k = 0; k < CLASSES * PER_CLASS; k++) {
+        const Input *in = &inputs[k / PER_CLASS][k % PER_CLASS];
+        measure_pair(in->sheet, in->sheet_len, in->numbers, in->numbers, classes[k / PER_CLASS].name);
+    }
+    for (int k = 0; k < RANDOM; k++)
+        measure_random_pair();
+}
+
 int main(void) {
     make_inputs();
     make_books();
+    make_pairs();
     measure_inputs();
     measure_random(any_job, "random and limit jobs");
     measure_random(any_support, "random and limit supports");
     measure_all_books();
+    measure_pairs();
     for (int c = 0; c < CALLS; c++)
         printf("%s;%zu;%s;%d\n", depths[c].call, depths[c].deepest, depths[c].where, depths[c].inputs);
     return 0;

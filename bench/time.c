@@ -38,8 +38,8 @@ static int passes(const List *list) {
  * a change of clock speed meets all alike. */
 static void take_block(int list, int first) {
     for (int r = -1; r < BLOCK; r++) {
-        for (int v = 0; v < version_count; v++) {
-            int which = r % 2 == 0 ? v : version_count - 1 - v;
+        for (int v = 0; v < lists[list].versions; v++) {
+            int which = r % 2 == 0 ? v : lists[list].versions - 1 - v;
             double ns = sample(&versions[which], &lists[list], times[list]);
             if (r >= 0)
                 taken[list][which][first + r] = ns;
@@ -105,7 +105,7 @@ static void show_line(int columns) {
 }
 
 static void show_ns(int list, int rounds) {
-    for (int v = 0; v < version_count; v++)
+    for (int v = 0; v < lists[list].versions; v++)
         printf(" %.1f |", median_ns(list, v, rounds));
 }
 
@@ -139,12 +139,40 @@ static void show_books(int rounds) {
     show_names("MB/s");
     show_ratio_names();
     show_line(1 + 3 * version_count);
-    for (int k = MIXED + 1; k < LISTS; k++) {
+    for (int k = BOOK_LISTS; k < PAIR_LISTS; k++) {
         printf("| %s | %.0f |", lists[k].name, bytes_of(k));
         show_ns(k, rounds);
         show_rates(k, rounds);
         show_ratios(k, rounds);
     }
+}
+
+static void show_pairs(int rounds) {
+    printf("| two jobs |");
+    show_names("ns");
+    show_ratio_names();
+    show_line(2 * version_count);
+    for (int k = PAIR_LISTS; k < PART_LISTS; k++) {
+        printf("| %s |", lists[k].name);
+        show_ns(k, rounds);
+        show_ratios(k, rounds);
+    }
+}
+
+static void show_parts(int rounds) {
+    printf("| of the accepted two jobs | library, ns |\n|---|---|\n");
+    for (int k = PART_LISTS; k < LISTS; k++)
+        printf("| %s | %.1f |\n", lists[k].name, median_ns(k, 0, rounds));
+}
+
+/* Two judgements are what two calls into no room have beside the readings, with the sheet examined once. */
+static void show_judgements(int rounds) {
+    double both = median_ns(PAIR_LISTS, 0, rounds), calls = median_ns(PART_LISTS + TWO_CALLS, 0, rounds);
+    double judgements = median_ns(PART_LISTS + INTO_NO_ROOM, 0, rounds) - median_ns(PART_LISTS + TWO_READINGS, 0, rounds) -
+                        median_ns(PART_LISTS + SHEET_ALONE, 0, rounds);
+    printf("- time, two jobs: the call / two whole calls = %.3f\n", both / calls);
+    printf("- time, two jobs: the call / two judgements = %.3f (aim: at most 1.05): %s\n", both / judgements,
+           both <= 1.05 * judgements ? "met" : "NOT MET");
 }
 
 static void show_aim(int list) {
@@ -155,7 +183,7 @@ static void show_aim(int list) {
 
 static int inputs_compared(void) {
     int count = 0;
-    for (int k = 0; k < LISTS; k++)
+    for (int k = 0; k < PART_LISTS; k++)
         count += k == MIXED ? 0 : lists[k].count;
     return count;
 }
@@ -180,9 +208,14 @@ int main(int words, char **word) {
     show_calls(rounds);
     printf("\nThe calls on books; the bytes of a book are a mean over the class, and an MB is 1,000,000 bytes.\n\n");
     show_books(rounds);
+    printf("\nThe call on a mild and a harsh job.\n\n");
+    show_pairs(rounds);
+    printf("\nWhat the library's calls on one job take of the same pairs.\n\n");
+    show_parts(rounds);
     printf("\n");
     for (int k = 0; k < LISTS; k++)
         if (has_aim(k))
             show_aim(k);
+    show_judgements(rounds);
     return 0;
 }
