@@ -31,6 +31,35 @@ FILES = {
 }
 
 
+# Of each field that is not free: its name, a number at the mild end and one at the harsh that differ, and how they may.
+NO_SMALLER, NO_GREATER = "in the harsh job it may be no smaller", "in the harsh job it may be no greater"
+ALIKE = "it has to be the same in both"
+SOIL = "in the harsh job its factor may be no greater, which is 0.4 for 1, 2 and 3, 0.5 for 4 and 1.0 for 5"
+FIELDS = {
+    1: ("family", 1, 2, ALIKE), 2: ("tube", 1, 2, ALIKE), 3: ("pole spacing across", 105, 155, NO_SMALLER),
+    4: ("bay", 60, 200, NO_SMALLER), 5: ("step", 60, 200, NO_SMALLER), 6: ("tie interval", 2, 3, NO_SMALLER),
+    7: ("height", 100, 5000, NO_SMALLER), 8: ("boards", 1, 3, ALIKE), 9: ("boarded layers", 1, 10, NO_SMALLER),
+    10: ("working layers", 1, 9, NO_SMALLER), 11: ("greatest live load on one layer", 0, 10000, NO_SMALLER),
+    12: ("live load summed over layers", 0, 30000, NO_SMALLER), 13: ("nets per pole", 0, 5000, NO_SMALLER),
+    14: ("structure weight per pole", 50, 500, NO_SMALLER), 15: ("basic wind", 0, 2000, NO_SMALLER),
+    16: ("height factor", 100, 4000, NO_SMALLER), 17: ("enclosure", 1, 3, ALIKE), 18: ("shield", 1, 1000, NO_SMALLER),
+    19: ("wall behind", 1, 2, ALIKE), 22: ("tie capacity", 100000, 8000, NO_GREATER), 23: ("soil", 5, 1, SOIL),
+    24: ("ground strength", 2000, 10, NO_GREATER), 25: ("pad area", 10000, 100, NO_GREATER),
+}
+# The mildest job, whose pole force is 285 N: everything passes; and the harshest, of which everything fails.
+MILDEST = [FIELDS[k][1] if k in FIELDS else {20: 240, 21: 1}[k] for k in range(1, 26)]
+ONE_WAY = [k for k in FIELDS if FIELDS[k][3] != ALIKE]
+HARSHEST = [FIELDS[k][2] if k in ONE_WAY else MILDEST[k - 1] for k in range(1, 26)]
+
+
+def wrong_way(field):
+    """A pair of which that field alone runs the wrong way, or is unlike."""
+    name, mild, harsh, asked = FIELDS[field]
+    # Enough layers are boarded, and enough load is summed, for whatever the field is.
+    first, second = [changed(MILDEST, **{"f9": 10, "f12": 30000, f"f{field}": number}) for number in (harsh, mild)]
+    return first + second, field, f"number {field}, {name}, is {harsh} in the mild job and {mild} in the harsh job; {asked}"
+
+
 def shown(checks, mild, harsh):
     """Standard output of outcomes, a digit for each check, and two heights."""
     lines = [f"{k} {digit} {OUTCOMES[digit]}: {name}\n" for k, (digit, name) in enumerate(zip(checks, CHECKS), 1)]
@@ -72,6 +101,9 @@ ANSWERED = [
     # No check hangs on the wall behind a double row, and soils 1 and 3 are alike.
     (T + two({"f23": 1, "f24": 252, "f20": 0, "f21": 3}, {"f23": 3, "f24": 251, "f20": 500}), shown("111111111131", 3277, 3277),
      waits("check 11", "number 24, ground strength, from 252 to 251")),
+    (T + changed(MILDEST) + changed(HARSHEST), shown("3" * 12, 6000, "none"),
+     waits("checks 1, 2, 3, 4, 5, 6, 7, 8, 9, 10, 11 and 12",
+           "; ".join(f"number {k}, {FIELDS[k][0]}, from {FIELDS[k][1]} to {FIELDS[k][2]}" for k in ONE_WAY))),
     (T + changed(SINGLE) * 2, shown("112121221222", "none", "none"), fails("checks 3, 5, 7, 8, 10, 11 and 12")),
 ]
 
@@ -117,16 +149,11 @@ REFUSED = [
 
 # Two jobs that are no mild and harsh one: field, and what is said of it.
 UNORDERED = [
-    (two({}, {"f24": 201}), 24, "number 24, ground strength, is 200 in the mild job and 201 in the harsh job; "
-     "in the harsh job it may be no greater"),
-    (["j.job", "201.job"], 24, "number 24, ground strength, is 200 in the mild job and 201 in the harsh job; "
-     "in the harsh job it may be no greater"),
-    (["bay-200.job", "j.job"], 4, "number 4, bay, is 200 in the mild job and 150 in the harsh job; "
-     "in the harsh job it may be no smaller"),
-    (two({"f8": 1}, {"f8": 2, "f24": 201}), 8, "number 8, boards, is 1 in the mild job and 2 in the harsh job; "
-     "it has to be the same in both"),
-    (two({"f23": 1}, {"f23": 4}), 23, "number 23, soil, is 1 in the mild job and 4 in the harsh job; in the harsh job its factor "
-     "may be no greater, which is 0.4 for 1, 2 and 3, 0.5 for 4 and 1.0 for 5"),
+    (["j.job", "201.job"], 24, f"number 24, ground strength, is 200 in the mild job and 201 in the harsh job; {NO_GREATER}"),
+    (["bay-200.job", "j.job"], 4, f"number 4, bay, is 200 in the mild job and 150 in the harsh job; {NO_SMALLER}"),
+    (two({"f8": 1}, {"f8": 2, "f24": 201}), 8, f"number 8, boards, is 1 in the mild job and 2 in the harsh job; {ALIKE}"),
+    (two({"f23": 1}, {"f23": 4}), 23, f"number 23, soil, is 1 in the mild job and 4 in the harsh job; {SOIL}"),
+    *[wrong_way(field) for field in FIELDS],
 ]
 
 UNUSABLE = [
