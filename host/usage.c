@@ -24,8 +24,10 @@ static const char usage[] =
     "                    (without it: the example sheet C, to be compared with the printed code)\n"
     "  --save FILE       once judged, also writes the job file; a file of that name is never written over\n"
     "\n"
-    "  run between       for numbers known only between two reports, as the ground's strength: what holds of every scaffold\n"
-    "                    job between a mild and a harsh one, two job files, or 50 numbers, the mild job's 25 first\n"
+    "  run between       for numbers known only between two reports, as the ground's strength: what holds of every accepted\n"
+    "                    scaffold job between a mild and a harsh one, two job files, or 50 numbers, the mild job's 25 first;\n"
+    "                    of the harsh job numbers 1, 2, 8, 17 and 19 are the same, 3 to 7, 9 to 16 and 18 no smaller, 22, 24\n"
+    "                    and 25 no greater, the factor of soil 23 no greater (5, then 4, then 1 to 3), 20 and 21 any\n"
     "\n"
     "  run depot TABLE   a spreadsheet of scaffold jobs exported as CSV, one row per facade, '-' for standard input; the\n"
     "                    first row has the 25 names below, in any order, or there is no such row and the numbers stand in\n"
@@ -45,7 +47,7 @@ static const char usage[] =
     "Standard output has the report, or the line 'refused', number, place; standard error says why in words.\n"
     "Of between it has a line a check, its number, 1 passes throughout, 2 fails throughout or 3 undecided, and the same in\n"
     "words, then 'heights', the stability height of the mild and of the harsh job; standard error says what to do.\n"
-    "Exit status: 0 judged, packed or shown, 1 refused, 2 bad usage or a file that cannot be read or written.\n"
+    "Exit status: 0 judged, told, packed or shown, 1 refused, 2 bad usage or a file that cannot be read or written.\n"
     "Of depot: 0 every row judged, 1 some row refused or unreadable, 2 bad usage, or a table or sheet that cannot be used.\n"
     "Of book pack: 2 also where a row of the table cannot be read.\n";
 
