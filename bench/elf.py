@@ -5,7 +5,7 @@ import struct
 EXECUTED, ALLOCATED, WRITTEN = 4, 2, 1
 SYMBOLS, RELOCATIONS = 2, 4
 
-Section = collections.namedtuple("Section", "name type flags offset size link info")
+Section = collections.namedtuple("Section", "name type flags address offset size link info")
 Symbol = collections.namedtuple("Symbol", "name kind section value size")
 
 
@@ -19,7 +19,7 @@ class Elf:
         table, count, names = struct.unpack_from("<Q", self.data, 40)[0], *struct.unpack_from("<HH", self.data, 60)
         raw = [struct.unpack_from("<IIQQQQIIQQ", self.data, table + 64 * k) for k in range(count)]
         text = raw[names][4]
-        self.sections = [Section(self.text(text + r[0]), r[1], r[2], r[4], r[5], r[6], r[7]) for r in raw]
+        self.sections = [Section(self.text(text + r[0]), *r[1:8]) for r in raw]
         self.symbols = self.read_symbols()
         self.points = self.read_relocations()
 
@@ -41,6 +41,13 @@ class Elf:
             for at in range(section.offset, section.offset + section.size, 24):
                 points[section.info].append(self.symbols[struct.unpack_from("<QQq", self.data, at)[1] >> 32])
         return points
+
+    def word(self, address):
+        """The four bytes of constants at an address of a program as a number with a sign, or nothing where none stand there."""
+        for section in (s for s in self.sections if kind(s) == "constants"):
+            if section.address <= address <= section.address + section.size - 4:
+                return struct.unpack_from("<i", self.data, section.offset + address - section.address)[0]
+        return None
 
     def reached(self, names):
         """The sections that functions reach through relocations, and the names that they ask for from outside."""

@@ -4,6 +4,9 @@ import re
 
 Instruction = collections.namedtuple("Instruction", "at name operands next")
 ENDS = {"ret", "retq", "ud2", "hlt"}
+# How the compiler jumps by a number: a table's address, the entry of the number, both added, and there.
+BY_TABLE = (("lea", r"(-?)(0x[0-9a-f]+)\(%rip\),(?P<table>%\w+)"), ("movslq", r"\((?P<table>%\w+),%\w+,4\),(?P<to>%\w+)"),
+            ("add", r"(?P<table>%\w+),(?P<to>%\w+)"), ("jmp", r"\*(?P<to>%\w+)"))
 
 
 class Unbounded(Exception):
@@ -62,11 +65,23 @@ def target(one):
     return int(one.operands.split()[0], 16)
 
 
-class Frames:
-    """The stack of every function, in bytes below the return address to its caller."""
+def table_address(lines):
+    """The address of the table by which the last of these instructions jumps, or nothing where they are not of that form."""
+    found = [re.fullmatch(form, one.operands) if one.name == name else None for one, (name, form) in zip(lines, BY_TABLE)]
+    if len(lines) < len(BY_TABLE) or not all(found):
+        return None
+    registers = [one.groupdict() for one in found]
+    if len({r["table"] for r in registers[:3]}) > 1 or len({r["to"] for r in registers[1:]}) > 1:
+        return None
+    sign, distance = found[0].group(1, 2)
+    return lines[0].next + int(sign + distance, 16)
 
-    def __init__(self, disassembly):
-        self.code = functions(disassembly)
+
+class Frames:
+    """The stack of every function, in bytes below the return address to its caller. word_at has the constants of the program."""
+
+    def __init__(self, disassembly, word_at):
+        self.code, self.word_at = functions(disassembly), word_at
         self.entry = {lines[0].at: name for name, lines in self.code.items() if lines}
         self.depths, self.active = {}, []
 
@@ -102,7 +117,7 @@ class Frames:
             if one.name.startswith("call"):
                 depth, path = self.depth(self.callee(target(one)))
                 deepest = max(deepest, (down + 8 + depth, [name] + path))
-            elif one.name.startswith("j") and target(one) not in inside:
+            elif one.name.startswith("j") and "*" not in one.operands and target(one) not in inside:
                 deepest = max(deepest, self.left(name, one, down))
             todo += [(to, after) for to in self.following(one, inside) if (to, after) not in seen.items()]
         return deepest
@@ -116,8 +131,21 @@ class Frames:
 
     def following(self, one, inside):
         """Where the code goes on from an instruction within its function."""
+        if one.name == "jmp" and "*" in one.operands:
+            return self.by_table(one, inside)
         after = [target(one)] if one.name.startswith("j") and target(one) in inside else []
         ends = one.name in ENDS or one.name.startswith("jmp")
         if not ends and one.next is None:
             raise Unbounded(f"the code runs out at {one.at:x}")
         return after + ([] if ends else [one.next])
+
+    def by_table(self, one, inside):
+        """Where a jump by a table goes, if no other jump leads between the four instructions. The table's end is not known: an
+        entry counts as long as it leads to an instruction of the function, which may be more than there are and never fewer."""
+        lines = [inside[at] for at in sorted(inside) if at <= one.at][-len(BY_TABLE):]
+        entered = {target(j) for j in inside.values() if j.name.startswith("j") and "*" not in j.operands}
+        at = table = None if entered & {line.at for line in lines[1:]} else table_address(lines)
+        found = []
+        while at is not None and self.word_at(at) is not None and table + self.word_at(at) in inside:
+            found, at = found + [table + self.word_at(at)], at + 4
+        return found or [target(one)]
