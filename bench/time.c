@@ -165,14 +165,16 @@ static void show_parts(int rounds) {
         printf("| %s | %.1f |\n", lists[k].name, median_ns(k, 0, rounds));
 }
 
-/* Two judgements are what two calls into no room have beside the readings, with the sheet examined once. */
+/* Two judgements are what two calls into no room have beside the readings; each examines the sheet. */
 static void show_judgements(int rounds) {
     double both = median_ns(PAIR_LISTS, 0, rounds), calls = median_ns(PART_LISTS + TWO_CALLS, 0, rounds);
-    double judgements = median_ns(PART_LISTS + INTO_NO_ROOM, 0, rounds) - median_ns(PART_LISTS + TWO_READINGS, 0, rounds) -
-                        median_ns(PART_LISTS + SHEET_ALONE, 0, rounds);
+    double judgements = median_ns(PART_LISTS + INTO_NO_ROOM, 0, rounds) - median_ns(PART_LISTS + TWO_READINGS, 0, rounds);
+    double sheet = median_ns(PART_LISTS + SHEET_ALONE, 0, rounds);
     printf("- time, two jobs: the call / two whole calls = %.3f\n", both / calls);
     printf("- time, two jobs: the call / two judgements = %.3f (aim: at most 1.05): %s\n", both / judgements,
            both <= 1.05 * judgements ? "met" : "NOT MET");
+    printf("- time, two jobs: the call / two judgements without the second examination of the sheet = %.3f\n",
+           both / (judgements - sheet));
 }
 
 static void show_aim(int list) {
