@@ -22,12 +22,14 @@ typedef struct {
     const char *name;
     uint32_t before; /* how much higher the places of its fields are */
     const char *path;
-    uint8_t file[FILE_ROOM];
+    uint8_t *file;
     size_t length;
     uint32_t numbers[REMBILUNG_NUMBERS];
 } End;
 
-static End ends[ENDS] = {{.name = "mild job"}, {.name = "harsh job", .before = REMBILUNG_NUMBERS}};
+static uint8_t files[ENDS][FILE_ROOM];
+static End ends[ENDS] = {{.name = "mild job", .file = files[0]},
+                         {.name = "harsh job", .before = REMBILUNG_NUMBERS, .file = files[1]}};
 
 /* Says which word is missing or too many; a first word of digits alone begins 50 numbers. */
 static void say_count(const Words *given) {
