@@ -4,18 +4,18 @@ use mathlib.Core.Path.{◌≡◌, ◌∙◌, refl, ap}
 use mathlib.Core.Bool.{Bool, true}
 use mathlib.Core.List.{List, [], ◌∷◌}
 use mathlib.Core.Logic.{◌↔◌, ◌⊎◌, inl, inr, ⊎_elim}
-use Prim.Native.Nat.{ℕ, zero, suc, ◌<◌}
+use Prim.Native.Nat.{ℕ, zero, suc}
 use native.Mathlib.Omega.{arith}
 use lib.Dec.{T, eqb, leb, eqb→eq, leb→le, le→leb}
 use lib.ListN.{length, get_or, set}
 use Rattle.std.proofs.lemmas.List.{length-set}
 use borrow.Author.Tests.{eq-eqb}
 use Rattle.basis.specs.Fraction.{◌≼◌}
-use Rattle.basis.specs.Rows.{First, Some, Refused, Follows}
+use Rattle.basis.specs.Rows.{Refused, Follows}
 use Rattle.basis.specs.Refusal.{nothing}
 use Rattle.basis.specs.declared.Refusal.TheVariants.{Disorder}
 use Rattle.basis.proofs.Tests.{holds}
-use Rattle.basis.proofs.Lowest.{Fails, lowest_none, lowest_is, lowest_every, set_passes}
+use Rattle.basis.proofs.Lowest.{lowest_none, lowest_is, lowest_every, set_passes}
 use Rattle.basis.proofs.Rows.{refused_is}
 use Rattle.job.specs.declared.Job.{Job}
 use Rattle.job.specs.Job.{job_of, numbers}
@@ -26,14 +26,14 @@ use Rattle.judge.proofs.Demand.{demand3}
 use Rattle.between.specs.Order.{in_order, disorder, with_field, Disordered, Row, Told}
 
 -- every test of a row passes, one by one and at any place
-abbrev All : List Bool → Type 0
-All [] = Unit
-All (test ∷ tests) = T test × All tests
+data All : List Bool → Type 0 where
+  none : All []
+  also : {test : Bool} {tests : List Bool} → T test → All tests → All (test ∷ tests)
 
 all_at : (tests : List Bool) → All tests → (i : ℕ) → T (get_or tests i true)
-all_at [] h i = tt
-all_at (test ∷ tests) h zero = h.0
-all_at (test ∷ tests) h (suc i) = all_at tests h.1 i
+all_at [] All.none i = tt
+all_at (test ∷ tests) (All.also t h) zero = t
+all_at (test ∷ tests) (All.also t h) (suc i) = all_at tests h i
 
 equal : (a b : ℕ) → a ≡ b → T (eqb a b)
 equal a b e = holds (eq-eqb a b e)
@@ -43,10 +43,31 @@ module _ (m k : Job) where
   unfolding in_order
   harsher_passes h =
       all_at (in_order m k)
-      (equal m.family k.family h.family, (equal m.tube k.tube h.tube, (le→leb m.lb k.lb h.lb, (le→leb m.la k.la h.la, (le→leb m.step k.step h.step, (le→leb m.ties k.ties h.ties, (le→leb m.height k.height h.height,
-      (equal m.boards k.boards h.boards, (le→leb m.boarded k.boarded h.boarded, (le→leb m.working k.working h.working, (le→leb m.q k.q h.q, (le→leb m.total k.total h.total, (le→leb m.nets k.nets h.nets, (le→leb m.weight k.weight h.weight,
-      (le→leb m.wind k.wind h.wind, (le→leb m.exposure k.exposure h.exposure, (equal m.enclosure k.enclosure h.enclosure, (le→leb m.shield k.shield h.shield, (equal m.wall k.wall h.wall,
-      (tt, (tt, (le→leb k.capacity m.capacity h.capacity, (h.soil, (le→leb k.strength m.strength h.strength, (le→leb k.pad m.pad h.pad, tt)))))))))))))))))))))))))
+      (All.also (equal m.family k.family h.family)
+      (All.also (equal m.tube k.tube h.tube)
+      (All.also (le→leb m.lb k.lb h.lb)
+      (All.also (le→leb m.la k.la h.la)
+      (All.also (le→leb m.step k.step h.step)
+      (All.also (le→leb m.ties k.ties h.ties)
+      (All.also (le→leb m.height k.height h.height)
+      (All.also (equal m.boards k.boards h.boards)
+      (All.also (le→leb m.boarded k.boarded h.boarded)
+      (All.also (le→leb m.working k.working h.working)
+      (All.also (le→leb m.q k.q h.q)
+      (All.also (le→leb m.total k.total h.total)
+      (All.also (le→leb m.nets k.nets h.nets)
+      (All.also (le→leb m.weight k.weight h.weight)
+      (All.also (le→leb m.wind k.wind h.wind)
+      (All.also (le→leb m.exposure k.exposure h.exposure)
+      (All.also (equal m.enclosure k.enclosure h.enclosure)
+      (All.also (le→leb m.shield k.shield h.shield)
+      (All.also (equal m.wall k.wall h.wall)
+      (All.also tt
+      (All.also tt
+      (All.also (le→leb k.capacity m.capacity h.capacity)
+      (All.also h.soil
+      (All.also (le→leb k.strength m.strength h.strength)
+      (All.also (le→leb k.pad m.pad h.pad) All.none)))))))))))))))))))))))))
 
   passes_harsher : ((i : ℕ) → T (get_or (in_order m k) i true)) → Harsher m k
   unfolding in_order

@@ -1,6 +1,6 @@
 -- A job's examination names one of its 25 fields.
 -- Assumes nothing.
-use mathlib.Core.Path.{◌≡◌, refl}
+use mathlib.Core.Path.{◌≡◌}
 use mathlib.Core.Bool.{true, false}
 use mathlib.Core.List.{◌∷◌}
 use mathlib.Core.Logic.{⊎_elim}

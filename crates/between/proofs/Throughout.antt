@@ -1,10 +1,10 @@
 -- What is told of two ends holds of every job between them.
 -- Assumes nothing.
-use mathlib.Core.Path.{◌≡◌, ◌∙◌, refl, sym, ap}
-use mathlib.Core.Bool.{Bool, true, false, cond}
+use mathlib.Core.Path.{◌≡◌, ◌∙◌, refl, sym}
+use mathlib.Core.Bool.{true, false}
 use mathlib.Core.List.{List}
 use mathlib.Core.Logic.{◌↔◌}
-use Prim.Native.Nat.{ℕ, zero, suc, ◌<◌}
+use Prim.Native.Nat.{ℕ, ◌<◌}
 use native.Mathlib.Omega.{arith}
 use lib.Dec.{eqb, lit<}
 use lib.ListN.{get_or}
@@ -35,7 +35,7 @@ use Rattle.between.specs.declared.Outcome.TheVariants.{PassesThroughout, FailsTh
 use Rattle.between.specs.Outcome.{outcome, outcomes}
 use Rattle.between.specs.Order.{in_order, disorder}
 use Rattle.between.specs.Between.{of_harsh, told, outcome_at, answer}
-use Rattle.between.specs.Throughout.{Lies, Holds, Throughout}
+use Rattle.between.specs.Throughout.{Holds, Throughout}
 use Rattle.between.proofs.Fields as Order
 
 -- what each outcome says of the two verdicts
@@ -47,9 +47,10 @@ fails_is v w e =
     cases (eqb v 2) (eqb-true v 2) (λ t. cases (eqb w 2) (λ u. absurd (cc (rw (t, u) at e))) (λ u. absurd (cc (rw (t, u) at e))))
 
 undecided_is : (v w : ℕ) → (outcome v w ≡ Undecided) ↔ ((v ≡ 2 → ⊥) × (w ≡ 2))
-undecided_is v w =
-    (λ e. cases (eqb v 2) (λ t. absurd (cc (rw t at e))) (λ t. cases (eqb w 2) (λ u. (eqb-false v 2 t, eqb-true w 2 u)) (λ u. absurd (cc (rw (t, u) at e)))),
-    λ h. rw (ne_eqb v 2 h.0, eq-eqb w 2 h.1) refl)
+undecided_is v w = (
+  λ e. cases (eqb v 2) (λ t. absurd (cc (rw t at e))) (λ t. cases (eqb w 2) (λ u. (eqb-false v 2 t, eqb-true w 2 u)) (λ u. absurd (cc (rw (t, u) at e)))),
+  λ h. rw (ne_eqb v 2 h.0, eq-eqb w 2 h.1) refl,
+)
 
 -- of what is answered: nothing is refused of either end, nor of their order, and it is what is told of their judgements
 record Parts (sheet : List ℕ) (m k : Job) (b : Between) : Type 0 where

@@ -1,6 +1,5 @@
 -- Stability heights fit 32 bits: what the code asks of heights that it hands on.
 -- Assumes nothing.
-use Rattle.std.specs.Prelude.{◌≤◌}
 use Rattle.section5.specs.declared.Heights.{Heights}
 use Rattle.section5.specs.Poles.{NoHigher}
 use Rattle.judge.specs.Answer.{stability_told}

@@ -1,6 +1,6 @@
 -- Refusal 12: the order of demand 3 tested of two jobs, field by field, and the lowest field at which it does not hold.
 -- Assumes nothing.
-use Rattle.std.specs.Prelude.{ℕ, zero, suc, ◌≡◌, Bool, true, List, [], ◌∷◌, ◌++◌, eqb, leb, get_or, set}
+use Rattle.std.specs.Prelude.{ℕ, zero, suc, Bool, true, List, [], ◌∷◌, ◌++◌, eqb, leb, get_or, set}
 use Rattle.basis.specs.Fraction.{◌≼◌}
 use Rattle.basis.specs.Range.{lowest}
 use Rattle.basis.specs.Refusal.{Examined}

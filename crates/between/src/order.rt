@@ -78,10 +78,7 @@ fn ground(mild: &Job, harsh: &Job) -> Result<(), Refusal>
     ensures { result ≡ lowest Disorder 20 (ground mild.now harsh.now) }
 {
     no_greater(22, mild.capacity, harsh.capacity)?;
-    ensure(
-        soil_no_better(mild.soil, harsh.soil),
-        Refusal::Disorder(23),
-    )?;
+    ensure(soil_no_better(mild.soil, harsh.soil), Refusal::Disorder(23))?;
     no_greater(24, mild.strength, harsh.strength)?;
     no_greater(25, mild.pad, harsh.pad)
 }

@@ -1,20 +1,20 @@
 -- What is asked of two ends, proved: from what crate between tells of them and from the rows of a job and of a sheet.
 -- Assumes nothing.
-use Prim.Native.Nat.{ℕ, ◌+◌, ◌≤◌, ◌<◌}
+use Prim.Native.Nat.{ℕ, ◌+◌, ◌≤◌}
 use mathlib.Core.Path.{◌≡◌, ◌∙◌, refl, sym, ap}
-use mathlib.Core.List.{List, [], map}
+use mathlib.Core.List.{List, []}
 use mathlib.Core.Bool.{Bool, true, false}
 use mathlib.Core.Logic.{◌⊎◌, inl, inr, ⊎_elim}
 use native.Mathlib.Omega.{arith}
-use lib.Dec.{eqb, lit≤, lit<}
-use lib.ListN.{length, get_or}
-use Rattle.std.specs.Prelude.{Result, Ok, Err, Option, None, Some as Height}
+use lib.Dec.{eqb, lit≤}
+use lib.ListN.{length}
+use Rattle.std.specs.Prelude.{Result, Ok, Option, None, Some as Height}
 use Rattle.basis.specs.Refusal.{number, place, Examined, nothing, unless, first}
 use Rattle.sheet.specs.Sheet as Sheet
 use Rattle.basis.specs.declared.Refusal.TheVariants.{SheetLength}
 use Rattle.basis.specs.declared.Refusal.{Refusal}
 use Rattle.basis.specs.declared.Refusal.TheVariants as Case
-use Rattle.basis.specs.Rows.{Some, Refused, Follows, Exactly}
+use Rattle.basis.specs.Rows.{Some, Refused, Follows}
 use Rattle.basis.proofs.Rows.{exactly, then_row, then_rest, refused_first}
 use Rattle.job.specs.declared.Job.{Job}
 use Rattle.job.specs.Job.{job_of}

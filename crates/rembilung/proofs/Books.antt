@@ -1,16 +1,12 @@
 -- What is asked of books, proved: from the table's rows and the round trip of crate book.
 -- Assumes nothing.
 use Prim.Native.Nat.{ℕ, ◌*◌, ◌/◌, ◌≤◌}
-use mathlib.Core.Path.{◌≡◌, ◌∙◌, refl, sym}
+use mathlib.Core.Path.{◌≡◌, ◌∙◌, sym}
 use mathlib.Core.List.{List, ◌++◌}
 use mathlib.Core.Logic.{⊎_elim}
 use native.Mathlib.Omega.{arith}
 use lib.ListN.{length, take, drop}
 use lib.Seq.{take-append_seam}
-use Rattle.std.specs.Prelude.{Result, Ok, Err}
-use Rattle.basis.specs.Refusal.{Examined}
-use Rattle.basis.specs.Rows.{Refused}
-use Rattle.basis.specs.declared.Refusal.{Refusal}
 use Rattle.basis.proofs.Rows.{exactly}
 use Rattle.groups.specs.Decode.{Bytes}
 use Rattle.book.specs.Book.{rows_most, row_count}
@@ -20,7 +16,6 @@ use Rattle.book.specs.Rows.{ReadRow, Reads, WriteRow, Writes}
 use Rattle.book.proofs.Rows.{told}
 use Rattle.book.proofs.Answered as Answered
 use Rattle.book.proofs.RoundTrip.{read_answer, write_answer, rewritten, whole_one, whole_most, round_trip}
-use Rattle.rembilung.specs.Code.{written_code}
 use Rattle.rembilung.specs.Call.{write_book_code, write_book_buffer, read_book_code, read_book_buffer}
 use Rattle.rembilung.specs.Table.{Refuses}
 use Rattle.rembilung.specs.Header.{Halves}
