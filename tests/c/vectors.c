@@ -272,11 +272,14 @@ static size_t all_book_reads(const BookVector *rows, size_t count) {
     return count;
 }
 
+static void between(const BetweenVector *row) {
+    case_begins("%s:%d: between", row->from, row->line);
+    expect_between(sheets[row->sheet], row->mild, row->harsh, row->due);
+}
+
 static size_t all_betweens(const BetweenVector *rows, size_t count) {
-    for (size_t k = 0; k < count; k++) {
-        case_begins("%s:%d: between", rows[k].from, rows[k].line);
-        expect_between(sheets[rows[k].sheet], rows[k].mild, rows[k].harsh, rows[k].due);
-    }
+    for (size_t k = 0; k < count; k++)
+        between(&rows[k]);
     return count;
 }
 

@@ -1,9 +1,10 @@
--- What is answered where nothing is refused.
+-- What is answered of a sheet and two jobs of which nothing is refused.
 -- Assumes nothing.
-use mathlib.Core.Path.{◌≡◌}
+use mathlib.Core.Path.{◌≡◌, refl}
 use mathlib.Core.List.{List}
 use Prim.Native.Nat.{ℕ}
-use Rattle.std.specs.Prelude.{Ok}
+use Rattle.std.specs.Prelude.{Ok, Err}
+use Rattle.basis.specs.declared.Refusal.{Refusal}
 use Rattle.basis.specs.Refusal.{nothing, first}
 use Rattle.basis.proofs.Refusals.{first_answers}
 use Rattle.job.specs.declared.Job.{Job}
@@ -15,12 +16,15 @@ use Rattle.between.specs.declared.Between.{Between}
 use Rattle.between.specs.Order.{disorder}
 use Rattle.between.specs.Between.{of_harsh, told, answer}
 
--- what is told of the jobs and the sheet that were read is the answer
-pub answered : (sheet : List ℕ) (m k : Job) {s : List ℕ} {j l : Job} {v w : Judgement} {t : Between}
-    → first (Sheet.examination sheet) (Ok sheet) ≡ Ok s → first (examination m) (Ok m) ≡ Ok j → first (of_harsh (examination k)) (Ok k) ≡ Ok l → disorder m k ≡ nothing
-    → v ≡ judgement j s → w ≡ judgement l s → t ≡ told v w → Ok t ≡ answer sheet m k
-answered sheet m k es em ek eo ev ew et =
-    let f = first_answers (Sheet.examination sheet) _ es in
-    let g = first_answers (examination m) _ em in
-    let h = first_answers (of_harsh (examination k)) _ ek in
-    rw (f.0, g.0, h.0, eo, et, ev, ew) (cc (f.1, g.1, h.1))
+-- of a sheet and two jobs that are read, as s, j and l
+module _ (sheet : List ℕ) (m k : Job) {s : List ℕ} {j l : Job} (es : first (Sheet.examination sheet) (Ok sheet) ≡ Ok s) (em : first (examination m) (Ok m) ≡ Ok j) (ek : first (of_harsh (examination k)) (Ok k) ≡ Ok l) where
+  -- what is answered hangs on their order
+  ordered : answer sheet m k ≡ first (disorder m k) (Ok (told (judgement m sheet) (judgement k sheet)))
+  ordered = rw ((first_answers (Sheet.examination sheet) _ es).0, (first_answers (examination m) _ em).0, (first_answers (of_harsh (examination k)) _ ek).0) refl
+
+  pub answered : {v w : Judgement} {t : Between} → disorder m k ≡ nothing → v ≡ judgement j s → w ≡ judgement l s → t ≡ told v w → Ok t ≡ answer sheet m k
+  answered eo ev ew et =
+      rw (ordered, eo, et, ev, ew) (cc ((first_answers (Sheet.examination sheet) _ es).1, (first_answers (examination m) _ em).1, (first_answers (of_harsh (examination k)) _ ek).1))
+
+  pub disordered : {r : Refusal} → disorder m k ≡ Err r → Err r ≡ answer sheet m k
+  disordered eo = rw (ordered, eo) refl
