@@ -37,10 +37,17 @@ pub enum Call {
         numbers: usize,
         fill: u64,
     },
+    /// A mild job and a harsh one under a sheet.
+    Between {
+        sheet: Vec<u8>,
+        mild: [u32; 25],
+        harsh: [u32; 25],
+        fill: u64,
+    },
 }
 
 /// What a call begins with.
-const KINDS: &str = "verdict, write, write-support, read, write-book or read-book";
+const KINDS: &str = "verdict, write, write-support, read, write-book, read-book or between";
 
 /// No buffer longer than this is lent when words are read back.
 const LONGEST: usize = 1 << 20;
@@ -63,6 +70,10 @@ impl fmt::Display for Call {
             }
             Call::ReadBook { book, numbers, fill } => {
                 write!(to, "read-book book={} numbers={numbers} fill={fill}", hex(book))
+            }
+            Call::Between { sheet, mild, harsh, fill } => {
+                let (mild, harsh) = (commas(mild), commas(harsh));
+                write!(to, "between sheet={} mild={mild} harsh={harsh} fill={fill}", hex(sheet))
             }
         }
     }
@@ -102,6 +113,11 @@ pub fn parse(words: &[&str]) -> Result<Call, String> {
         "read-book" => {
             let [book, numbers, fill] = values(rest, ["book", "numbers", "fill"])?;
             Ok(Call::ReadBook { book: unhex(book)?, numbers: length(numbers)?, fill: number(fill)? })
+        }
+        "between" => {
+            let [sheet, mild, harsh, fill] = values(rest, ["sheet", "mild", "harsh", "fill"])?;
+            let [mild, harsh] = [counted(list(mild)?)?, counted(list(harsh)?)?];
+            Ok(Call::Between { sheet: unhex(sheet)?, mild, harsh, fill: number(fill)? })
         }
         other => Err(format!("'{other}' is no call: {KINDS}")),
     }

@@ -19,6 +19,13 @@ unsafe extern "C" {
     fn rembilung_read_job(file: *const u8, file_len: usize, numbers: *mut u32) -> u64;
     fn rembilung_write_book(rows: *const u32, numbers: usize, book: *mut u8, book_len: usize) -> u64;
     fn rembilung_read_book(book: *const u8, book_len: usize, rows: *mut u32, numbers: usize) -> u64;
+    fn rembilung_between(
+        sheet: *const u8,
+        sheet_len: usize,
+        mild: *const u32,
+        harsh: *const u32,
+        answer: *mut u32,
+    ) -> u64;
 }
 
 /// Bytes on each side of what is lent; they must stay as they were.
@@ -54,6 +61,11 @@ impl Answer {
     pub fn lent(&self) -> &[u8] {
         &self.written[GUARD..self.written.len() - GUARD]
     }
+
+    /// The same as whole numbers of four bytes.
+    pub fn numbers(&self) -> Vec<u32> {
+        self.lent().as_chunks().0.iter().map(|&number| u32::from_le_bytes(number)).collect()
+    }
 }
 
 /// The library's answer and the twin's, from the same bytes.
@@ -65,7 +77,7 @@ pub fn library(call: &Call) -> Answer {
     answer(call, &LIBRARY)
 }
 
-/// The six calls of one side.
+/// The seven calls of one side.
 pub struct Side {
     pub verdict: fn(&[u8], &[u8], &mut [u8]) -> u64,
     pub write_job: fn(&[u32; 25], &mut [u8]) -> u64,
@@ -73,6 +85,7 @@ pub struct Side {
     pub read_job: fn(&[u8], &mut [u32; 25]) -> u64,
     pub write_book: fn(&[u32], &mut [u8]) -> u64,
     pub read_book: fn(&[u8], &mut [u32]) -> u64,
+    pub between: fn(&[u8], &[u32; 25], &[u32; 25], &mut [u32; 14]) -> u64,
 }
 
 pub const TWIN: Side = Side {
@@ -82,6 +95,7 @@ pub const TWIN: Side = Side {
     read_job: calls::read_job,
     write_book: calls::write_book,
     read_book: calls::read_book,
+    between: calls::between,
 };
 
 // A slice's pointer is never null and its length is that of one lent buffer, as the header asks.
@@ -92,6 +106,9 @@ pub const LIBRARY: Side = Side {
     read_job: |file, lent| unsafe { rembilung_read_job(file.as_ptr(), file.len(), lent.as_mut_ptr()) },
     write_book: library_write_book,
     read_book: |book, lent| unsafe { rembilung_read_book(book.as_ptr(), book.len(), lent.as_mut_ptr(), lent.len()) },
+    between: |sheet, mild, harsh, lent| unsafe {
+        rembilung_between(sheet.as_ptr(), sheet.len(), mild.as_ptr(), harsh.as_ptr(), lent.as_mut_ptr())
+    },
 };
 
 /// The library's writing of a book, on slices.
@@ -124,6 +141,7 @@ fn answer(call: &Call, side: &Side) -> Answer {
             read(into_25, file, 25, *fill)
         }
         Call::ReadBook { book, numbers, fill } => read(side.read_book, book, *numbers, *fill),
+        Call::Between { sheet, mild, harsh, fill } => between(side, sheet, [mild, harsh], *fill),
     }
 }
 
@@ -136,9 +154,8 @@ fn counted<const N: usize>(call: fn(&[u32; N], &mut [u8]) -> u64) -> impl Fn(&[u
 fn written(call: impl Fn(&[u32], &mut [u8]) -> u64, numbers: &[u32], length: usize, fill: u64) -> Answer {
     let mut random = Random::new(fill, 0);
     let mut written = random.bytes(length + 2 * GUARD);
-    let mut around = some_numbers(numbers.len(), &mut random);
-    around[BESIDE..BESIDE + numbers.len()].copy_from_slice(numbers);
-    let returned = call(&around[BESIDE..BESIDE + numbers.len()], &mut written[GUARD..GUARD + length]);
+    let around = guarded_numbers(numbers, &mut random);
+    let returned = call(inside_numbers(&around), &mut written[GUARD..GUARD + length]);
     Answer { returned, written, read: to_bytes(&black_box(around)) }
 }
 
@@ -149,6 +166,19 @@ fn read(call: impl Fn(&[u8], &mut [u32]) -> u64, bytes: &[u8], count: usize, fil
     let first = guarded(bytes, &mut random);
     let returned = call(inside(&first), &mut numbers[BESIDE..BESIDE + count]);
     Answer { returned, written: to_bytes(&numbers), read: black_box(first) }
+}
+
+/// The answer of the call on a mild and a harsh job.
+fn between(side: &Side, sheet: &[u8], jobs: [&[u32; 25]; 2], fill: u64) -> Answer {
+    let mut random = Random::new(fill, 0);
+    let mut numbers = some_numbers(14, &mut random);
+    let sheet = guarded(sheet, &mut random);
+    let jobs = jobs.map(|job| guarded_numbers(job, &mut random));
+    let [mild, harsh] = [0, 1].map(|job: usize| inside_numbers(&jobs[job]).try_into().expect("25 numbers are lent"));
+    let lent = (&mut numbers[BESIDE..BESIDE + 14]).try_into().expect("14 numbers are lent");
+    let returned = (side.between)(inside(&sheet), mild, harsh, lent);
+    let (sheet, [mild, harsh]) = black_box((sheet, jobs));
+    Answer { returned, written: to_bytes(&numbers), read: [sheet, to_bytes(&mild), to_bytes(&harsh)].concat() }
 }
 
 /// Pseudo-random numbers: as many as are lent, and the guards.
@@ -164,6 +194,16 @@ fn guarded(bytes: &[u8], random: &mut Random) -> Vec<u8> {
     let mut around = random.bytes(bytes.len() + 2 * GUARD);
     around[GUARD..GUARD + bytes.len()].copy_from_slice(bytes);
     around
+}
+
+fn guarded_numbers(numbers: &[u32], random: &mut Random) -> Vec<u32> {
+    let mut around = some_numbers(numbers.len(), random);
+    around[BESIDE..BESIDE + numbers.len()].copy_from_slice(numbers);
+    around
+}
+
+fn inside_numbers(guarded: &[u32]) -> &[u32] {
+    &guarded[BESIDE..guarded.len() - BESIDE]
 }
 
 fn inside(guarded: &[u8]) -> &[u8] {

@@ -18,8 +18,7 @@ pub fn tried(call: &Call, answer: &Answer) -> Option<Result<Cell, String>> {
         }
         Call::ReadBook { book, fill, .. } => {
             let rows = answer.returned as usize;
-            let (numbers, _) = answer.lent().get(..rows * 100)?.as_chunks();
-            let numbers = numbers.iter().map(|&number| u32::from_le_bytes(number)).collect();
+            let numbers = answer.numbers().get(..rows * 25)?.to_vec();
             let back = library(&Call::WriteBook { numbers, book: book.len(), fill: *fill });
             Some(same(true, rows, &back, book.len(), book))
         }

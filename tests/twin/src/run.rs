@@ -158,7 +158,7 @@ fn count(planned: &Planned, library: &Answer, table: &mut Table) -> Option<Repor
     report
 }
 
-/// Refusals are counted by these kinds: verdict, write and read of jobs 0 to 2, of supports 3 to 5; books 6 and 7.
+/// Refusals are counted by these kinds: verdict, write and read of jobs 0 to 2, of supports 3 to 5; books 6 and 7; two ends 8.
 fn kind(call: &Call) -> u32 {
     let is_support = |file: &[u8]| file.first() == Some(&3);
     match call {
@@ -168,6 +168,7 @@ fn kind(call: &Call) -> u32 {
         Call::Read { file, .. } => 2 + 3 * u32::from(is_support(file)),
         Call::WriteBook { .. } => 6,
         Call::ReadBook { .. } => 7,
+        Call::Between { .. } => 8,
     }
 }
 
@@ -191,6 +192,7 @@ pub fn told(call: &Call, answer: &Answer) -> String {
     };
     let lent = match call {
         Call::Verdict { .. } => String::from_utf8_lossy(answer.lent()).escape_debug().to_string(),
+        Call::Between { .. } => format!("{:?}", answer.numbers()),
         _ => answer.lent().iter().map(|byte| format!("{byte:02x}")).collect(),
     };
     format!("{returned}, buffer {lent}")

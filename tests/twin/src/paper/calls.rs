@@ -1,5 +1,6 @@
-//! The six calls as the C host sees them: one 64-bit number back, lent buffers written only on success.
+//! The seven calls as the C host sees them: one 64-bit number back, lent buffers written only on success.
 
+use super::between;
 use super::book;
 use super::file::{self, Content};
 use super::job::{self, Fields};
@@ -60,4 +61,12 @@ pub fn write_book(numbers: &[u32], lent: &mut [u8]) -> u64 {
 pub fn read_book(book: &[u8], lent: &mut [u32]) -> u64 {
     let (rows, _after) = lent.as_chunks_mut::<25>();
     one_number(book::read(book, rows))
+}
+
+/// What holds of every job between two: 1, 2, then 3, 4, 5 of the mild job, then of the harsh, then 12.
+pub fn between(sheet: &[u8], mild: &[u32; 25], harsh: &[u32; 25], lent: &mut [u32; 14]) -> u64 {
+    one_number(between::answer(sheet, &Fields(*mild), &Fields(*harsh)).map(|answer| {
+        *lent = answer;
+        14
+    }))
 }

@@ -1,5 +1,6 @@
-//! Document 01 with requests 1/14 to 5/14, in its own order and in exact fractions: what the library is compared with.
+//! Document 01 with requests 1/14 to 6/14, in its own order and in exact fractions: what the library is compared with.
 
+pub mod between;
 pub mod book;
 pub mod calls;
 pub mod checks;
@@ -9,6 +10,7 @@ pub mod file;
 pub mod fraction;
 pub mod heights;
 pub mod job;
+pub mod order;
 pub mod refusal;
 pub mod report;
 pub mod sheet;
