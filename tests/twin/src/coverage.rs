@@ -27,6 +27,10 @@ pub enum Expect {
     Poles(bool),
     Height(Option<u32>),
     Column(u32),
+    /// What is told of a check between two ends.
+    Told(usize, u32),
+    /// The stability heights of two ends.
+    Ends([u32; 2]),
 }
 
 impl Expect {
@@ -42,6 +46,8 @@ impl Expect {
             Expect::Poles(pass) => report.is_some_and(|report| report.poles_pass() == pass),
             Expect::Height(height) => report.is_some_and(|report| report.stability == height),
             Expect::Column(z) => report.is_some_and(|report| report.column == z),
+            Expect::Told(check, told) => answer.refusal() == 0 && answer.numbers()[check - 1] == told,
+            Expect::Ends(heights) => answer.refusal() == 0 && answer.numbers()[12..] == heights,
         }
     }
 }

@@ -3,11 +3,15 @@
 use crate::call::Call;
 use crate::paper::file::{self, Content};
 use crate::paper::job::Job;
+use crate::paper::order;
 use crate::reading::Report;
 
 /// What a pair breaks, if anything: what fails for the first has to fail for the second.
 /// Of supports this is request 2/14's; of scaffold jobs it is the first half of demand 3, which adds the heights.
-pub fn pair_fault(first: &Report, second: &Report) -> Option<String> {
+pub fn pair_fault((call, first): &(&Call, Report), (other, second): &(&Call, Report)) -> Option<String> {
+    if !first.is_support && !in_order(call, other) {
+        return Some("pair: the second job is not the first or a harsher one".to_string());
+    }
     let check = (1..=12).find(|&check| first.verdict(check) == 2 && second.verdict(check) != 2);
     if let Some(check) = check {
         return Some(format!("pair: check {check} fails for the first and not for the second"));
@@ -34,6 +38,11 @@ pub fn heights_fault(calls: &[(&Call, Report)]) -> Option<String> {
             format!("heights: {heights}, yet the report at height {height} is {report:?}")
         })
     })
+}
+
+/// Whether the scaffold jobs of two verdict calls are in the order of a pair.
+pub fn in_order(first: &Call, second: &Call) -> bool {
+    matches!((job(first), job(second)), (Some(first), Some(second)) if order::fault(&first, &second).is_none())
 }
 
 /// The scaffold job of a verdict call.

@@ -17,10 +17,11 @@ mod random;
 mod reading;
 mod round_trip;
 mod run;
+mod throughout;
 
 use call::Call;
 use coverage::Cell;
-use inputs::{Lists, required};
+use inputs::{Lists, Relation, required};
 use options::Task;
 use run::Plan;
 use std::io::Write;
@@ -36,8 +37,7 @@ fn main() -> ExitCode {
         Ok(Task::Paper) => Ok(paper_cases()),
         Ok(Task::Answers) => answers::answer_lines(std::io::stdin().lock(), std::io::stdout().lock()).map(|()| true),
         Ok(Task::Case(call)) => Ok(one_call(&call)),
-        Ok(Task::Pair(calls)) => related(&calls, true),
-        Ok(Task::Heights(calls)) => related(&calls, false),
+        Ok(Task::Related(relation, calls)) => related(relation, &calls),
         Ok(Task::Record { plan, path }) => record(&plan, &path),
         Err(message) => Err(message),
     };
@@ -67,7 +67,9 @@ fn differential(plan: &Plan, whole_table: bool) -> bool {
     if whole_table {
         outcome.table.print_whole();
     }
-    println!("seed {}, {} jobs with all 6,001 heights scanned", plan.seed, outcome.scans);
+    let trials = &outcome.trials;
+    println!("seed {}, {} jobs with all 6,001 heights scanned", plan.seed, trials.scans);
+    println!("{} jobs between two ends held against what was told of the ends", trials.between);
     println!("{} cells required:", required.len());
     outcome.table.print(&required);
     let all_met = plan.calls < FULL || none_is_empty(&outcome.table.empty(&required));
@@ -106,26 +108,33 @@ fn one_call(call: &Call) -> bool {
     library == twin && lost.is_none()
 }
 
-/// Demand 3, or what a pair of supports has to keep, once more on the calls of a turn.
-fn related(calls: &[Call], is_pair: bool) -> Result<bool, String> {
-    let mut reports = Vec::new();
+/// Demand 3, or what a pair of supports or two ends have to keep, once more on the calls of a turn.
+fn related(relation: Relation, calls: &[Call]) -> Result<bool, String> {
+    let (mut told, mut reports) = (None, Vec::new());
     for call in calls {
         let library = compare::library(call);
         println!("library: {}", run::told(call, &library));
+        if matches!(call, Call::Between { .. }) {
+            told = throughout::told(call, &library);
+            continue;
+        }
         let report = if library.refusal() == 0 { reading::read(library.bytes()) } else { None };
         reports.push((call, report.ok_or("a call was not answered with a report")?));
     }
-    let fault = match (is_pair, reports.as_slice()) {
-        (true, [first, second]) if first.1.is_support == second.1.is_support => {
-            demand3::pair_fault(&first.1, &second.1)
+    let fault = match (relation, reports.as_slice()) {
+        (Relation::Pair, [first, second]) if first.1.is_support == second.1.is_support => {
+            demand3::pair_fault(first, second)
         }
-        (true, _) => {
+        (Relation::Pair, _) => {
             return Err("--pair takes two verdict calls, both on scaffold jobs or both on supports".to_string());
         }
-        (false, _) if reports.iter().any(|(_, report)| report.is_support) => {
-            return Err("--heights takes scaffold jobs: a support reports no height".to_string());
+        (_, reports) if reports.iter().any(|(_, report)| report.is_support) => {
+            return Err("only scaffold jobs are so related: a support reports no height".to_string());
         }
-        (false, _) => demand3::heights_fault(&reports),
+        (Relation::Between, reports) => {
+            throughout::fault(&told.ok_or("--between begins with a between call that is not refused")?, reports)
+        }
+        (_, reports) => demand3::heights_fault(reports),
     };
     println!("{}", fault.as_deref().unwrap_or("what is asked of them holds"));
     Ok(fault.is_none())

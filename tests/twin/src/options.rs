@@ -1,16 +1,18 @@
 //! The command line.
 
 use crate::call::{Call, parse};
+use crate::inputs::Relation;
 use crate::run::Plan;
 
 pub const USAGE: &str = "usage: twin [CALLS] [--seed N] [--threads N] [--stop N] [--table]
        twin --paper
        twin --answers
-       twin --case CALL | --pair CALL CALL | --heights CALL ..
+       twin --case CALL | --pair CALL CALL | --heights CALL .. | --between CALL CALL CALL ..
        twin --record FILE [CALLS] [--seed N]
 A CALL is the words that a differing call printed: verdict sheet=HEX file=HEX report=LENGTH fill=N,
 write numbers=N,N,.. file=LENGTH fill=N, write-support numbers=N,N,.. file=LENGTH fill=N, read file=HEX fill=N,
-write-book numbers=N,N,.. book=LENGTH fill=N, or read-book book=HEX numbers=COUNT fill=N.
+write-book numbers=N,N,.. book=LENGTH fill=N, read-book book=HEX numbers=COUNT fill=N, or
+between sheet=HEX mild=N,N,.. harsh=N,N,.. fill=N.
 --answers reads lines \"SHEET FILE\", each the bytes in hexadecimal or '-' for none, and gives the twin's answers.";
 
 /// What is asked for.
@@ -19,8 +21,7 @@ pub enum Task {
     Paper,
     Answers,
     Case(Call),
-    Pair(Vec<Call>),
-    Heights(Vec<Call>),
+    Related(Relation, Vec<Call>),
     Record { plan: Plan, path: String },
 }
 
@@ -31,8 +32,9 @@ pub fn read(words: &[String]) -> Result<Task, String> {
         Some((&"--answers", [])) => Ok(Task::Answers),
         Some((&alone @ ("--paper" | "--answers"), _)) => Err(format!("{alone} stands alone\n{USAGE}")),
         Some((&"--case", rest)) => parse(rest).map(Task::Case),
-        Some((&"--pair", rest)) => calls(rest).map(Task::Pair),
-        Some((&"--heights", rest)) => calls(rest).map(Task::Heights),
+        Some((&"--pair", rest)) => related(Relation::Pair, rest),
+        Some((&"--heights", rest)) => related(Relation::Heights, rest),
+        Some((&"--between", rest)) => related(Relation::Between, rest),
         Some((&"--record", rest)) => {
             let (path, rest) = rest.split_first().ok_or(format!("--record needs a file\n{USAGE}"))?;
             plan(rest).map(|(plan, _)| Task::Record { plan, path: path.to_string() })
@@ -41,18 +43,18 @@ pub fn read(words: &[String]) -> Result<Task, String> {
     }
 }
 
-/// Verdict calls, one after another.
-fn calls(words: &[&str]) -> Result<Vec<Call>, String> {
+/// Verdict calls, one after another; behind a between call where its ends are meant. Either kind has five words.
+fn related(relation: Relation, words: &[&str]) -> Result<Task, String> {
     if words.is_empty() {
         return Err(format!("no call given\n{USAGE}"));
     }
-    words
-        .chunks(5)
-        .map(|words| match parse(words)? {
-            call @ Call::Verdict { .. } => Ok(call),
-            _ => Err("only verdict calls are related".to_string()),
-        })
-        .collect()
+    let call = |(number, words): (usize, &[&str])| match (parse(words)?, relation, number) {
+        (call @ Call::Between { .. }, Relation::Between, 0) => Ok(call),
+        (call @ Call::Verdict { .. }, ..) => Ok(call),
+        _ => Err("only verdict calls are related, behind one between call with --between".to_string()),
+    };
+    let calls: Result<Vec<Call>, String> = words.chunks(5).enumerate().map(call).collect();
+    calls.map(|calls| Task::Related(relation, calls))
 }
 
 fn plan(words: &[&str]) -> Result<(Plan, bool), String> {

@@ -10,7 +10,7 @@ use crate::inputs::{Lists, Planned, Relation, Turn, block, block_length};
 use crate::paper::file::{self, Content};
 use crate::paper::{heights, sheet};
 use crate::reading::{self, Report};
-use crate::round_trip;
+use crate::{round_trip, throughout};
 use std::sync::Mutex;
 use std::sync::atomic::{AtomicU64, Ordering};
 
@@ -22,11 +22,27 @@ pub struct Plan {
     pub stop: usize,
 }
 
-/// Differing calls by number with what is to be printed, the coverage, and the jobs whose heights were scanned.
+/// Differing calls by number with what is to be printed, the coverage, and what was tried beside the calls.
 pub struct Outcome {
     pub differing: Vec<(u64, String)>,
     pub table: Table,
+    pub trials: Trials,
+}
+
+/// What is tried of the library's answers alone.
+#[derive(Default)]
+pub struct Trials {
+    /// Jobs whose heights were scanned.
     pub scans: u64,
+    /// Jobs between two ends whose reports were held against what was told of the ends.
+    pub between: u64,
+}
+
+impl Trials {
+    fn add(&mut self, other: &Trials) {
+        self.scans += other.scans;
+        self.between += other.between;
+    }
 }
 
 /// Differing calls, shared by the threads; no call at or behind `end` is made.
@@ -50,15 +66,15 @@ impl Found {
 /// Runs the plan.
 pub fn run(plan: &Plan, lists: &Lists) -> Outcome {
     let found = Found { differing: Mutex::new(Vec::new()), end: AtomicU64::new(plan.calls), stop: plan.stop };
-    let mut outcome = Outcome { differing: Vec::new(), table: Table::default(), scans: 0 };
+    let mut outcome = Outcome { differing: Vec::new(), table: Table::default(), trials: Trials::default() };
     let shared = &found;
     std::thread::scope(|scope| {
         let spawn = |thread| scope.spawn(move || worker(plan, lists, shared, thread));
         let threads: Vec<_> = (0..plan.threads).map(spawn).collect();
         for thread in threads {
-            let (table, scans) = thread.join().expect("a thread of the run stopped");
+            let (table, trials) = thread.join().expect("a thread of the run stopped");
             outcome.table.add(&table);
-            outcome.scans += scans;
+            outcome.trials.add(&trials);
         }
     });
     outcome.differing = found.differing.into_inner().expect("all threads have ended");
@@ -66,24 +82,24 @@ pub fn run(plan: &Plan, lists: &Lists) -> Outcome {
     outcome
 }
 
-fn worker(plan: &Plan, lists: &Lists, found: &Found, thread: u64) -> (Table, u64) {
-    let (mut table, mut scans) = (Table::default(), 0);
+fn worker(plan: &Plan, lists: &Lists, found: &Found, thread: u64) -> (Table, Trials) {
+    let (mut table, mut trials) = (Table::default(), Trials::default());
     for number in (thread..).step_by(plan.threads as usize) {
         let mut first = number * block_length() as u64;
         if first >= found.end.load(Ordering::SeqCst) {
             break;
         }
         for turn in block(lists, plan.seed, number) {
-            take(&turn, first, found, &mut table, &mut scans);
+            take(&turn, first, found, &mut table, &mut trials);
             first += turn.calls.len() as u64;
         }
     }
-    (table, scans)
+    (table, trials)
 }
 
 /// The calls of one turn, the first of them numbered `first`.
-fn take(turn: &Turn, first: u64, found: &Found, table: &mut Table, scans: &mut u64) {
-    let mut reports: Vec<(&Call, Report)> = Vec::new();
+fn take(turn: &Turn, first: u64, found: &Found, table: &mut Table, trials: &mut Trials) {
+    let (mut told, mut reports) = (None, Vec::<(&Call, Report)>::new());
     for (number, planned) in (first..).zip(&turn.calls) {
         if number >= found.end.load(Ordering::SeqCst) {
             return;
@@ -97,31 +113,50 @@ fn take(turn: &Turn, first: u64, found: &Found, table: &mut Table, scans: &mut u
             Some(Err(fault)) => found.add(number, format!("{fault}\n  again: --case {}", planned.call)),
             None => {}
         }
+        told = told.or(throughout::told(&planned.call, &library));
         let report = count(planned, &library, table);
         reports.extend(report.map(|report| (&planned.call, report)));
         if let Some(report) = report.filter(|report| number % SCAN_EVERY == 0 && !report.is_support) {
-            *scans += 1;
+            trials.scans += 1;
             scan_fault(&planned.call, &report).into_iter().for_each(|text| found.add(number, text));
         }
     }
-    if let Some((option, fault)) = related(turn.relation, &reports, table) {
+    if turn.relation == Relation::Between {
+        trials.between += reports.len().saturating_sub(2) as u64;
+    }
+    if let Some((option, fault)) = related(turn, told, &reports, table) {
         let words: Vec<String> = turn.calls.iter().map(|planned| planned.call.to_string()).collect();
         found.add(first, format!("{fault}\n  again: {option} {}", words.join(" ")));
     }
 }
 
 /// What has to hold among the reports of a turn and does not, with the option by which it is tried again.
-fn related(relation: Relation, reports: &[(&Call, Report)], table: &mut Table) -> Option<(&'static str, String)> {
-    match (relation, reports) {
+fn related(
+    turn: &Turn,
+    told: Option<[u32; 14]>,
+    reports: &[(&Call, Report)],
+    table: &mut Table,
+) -> Option<(&'static str, String)> {
+    match (turn.relation, reports) {
         (Relation::Nothing, _) => None,
-        (Relation::Pair, [(call, first), (_, second)]) => {
-            let cell = job(call).map(|job| pair_cell(&job, [first, second]));
+        (Relation::Pair, [first, second]) => {
+            let cell = job(first.0).map(|job| pair_cell(&job, [&first.1, &second.1]));
             cell.into_iter().for_each(|cell| table.count(cell));
             pair_fault(first, second).map(|fault| ("--pair", fault))
         }
         (Relation::Pair, _) => Some(("--pair", "pair: one of the two was not accepted".to_string())),
         (Relation::Heights, _) => heights_fault(reports).map(|fault| ("--heights", fault)),
+        (Relation::Between, _) => between(turn, told, reports, table).map(|fault| ("--between", fault)),
     }
+}
+
+/// What was told of two ends against the reports of both and of the jobs between them.
+fn between(turn: &Turn, told: Option<[u32; 14]>, reports: &[(&Call, Report)], table: &mut Table) -> Option<String> {
+    let Some(told) = told.filter(|_| reports.len() + 1 == turn.calls.len()) else {
+        return Some("between: an end or a job between was not accepted".to_string());
+    };
+    throughout::cells(&told).for_each(|cell| table.count(cell));
+    throughout::fault(&told, reports)
 }
 
 /// Every so many calls the stability height is also found by a scan of all heights.

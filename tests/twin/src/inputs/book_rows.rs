@@ -1,7 +1,6 @@
 //! The turns on books that are refused for a row: every field, contradictions, walls, supports, and several such rows.
 
 use super::books::{accepted, expected, through, whole};
-use super::damage::end_cell;
 use super::jobs::{self, any_accepted};
 use super::kinds::single;
 use super::{Lists, Turn, ends, supports};
@@ -139,16 +138,8 @@ pub const KINDS: [u32; 2] = [6, 7];
 
 /// Every end of a range, and the contradictions and walls beside them, in a row of a small book.
 pub fn end(random: &mut Random, lists: &Lists, turn: u64) -> Turn {
-    let number = turn as usize % (lists.ends.len() + ends::CONTRADICTIONS as usize);
-    let reads = turn as usize / (lists.ends.len() + ends::CONTRADICTIONS as usize) % 2 == 1;
-    let kind = KINDS[usize::from(reads)];
-    let (job, key) = match lists.ends.get(number) {
-        Some(&end) => (ends::job(random, end), end_cell(end, kind)),
-        None => {
-            let number = (number - lists.ends.len()) as u32;
-            (ends::contradiction(random, number), cell("contradiction or wall", [number, kind, 0, 0]))
-        }
-    };
+    let reads = turn / ends::count(&lists.ends) % 2 == 1;
+    let (job, key) = ends::numbered(random, &lists.ends, turn, KINDS[usize::from(reads)]);
     let size = random.within(1, 3) as usize;
     let mut rows = accepted(random, size);
     rows[random.below(size)] = job;

@@ -1,6 +1,7 @@
 //! The turns on what is refused or nearly so: ends of ranges, contradictions, sheets, files, buffers and several faults.
 
 use super::any_job::AnyJob;
+use super::ends::{contradiction_cell, end_cell};
 use super::jobs::any_accepted;
 use super::kinds::{Cells, judged, single, through};
 use super::sheets::{to_bytes, valid};
@@ -48,25 +49,18 @@ pub fn end(random: &mut Random, lists: &Lists, turn: u64) -> Turn {
     single(through(random, kind, &job), vec![(end_cell(end, kind as u32), expected(kind, &job))])
 }
 
-pub fn end_cell(end: ends::End, kind: u32) -> Cell {
-    cell("end of a range", [end.field as u32, end.family * 10 + end.enclosure, end.value, kind])
-}
-
 pub fn contradiction(random: &mut Random, _: &Lists, turn: u64) -> Turn {
     let number = turn as u32 % ends::CONTRADICTIONS;
     let kind = turn / u64::from(ends::CONTRADICTIONS) % 3;
     let job = ends::contradiction(random, number);
-    single(
-        through(random, kind, &job),
-        vec![(cell("contradiction or wall", [number, kind as u32, 0, 0]), expected(kind, &job))],
-    )
+    single(through(random, kind, &job), vec![(contradiction_cell(number, kind as u32), expected(kind, &job))])
 }
 
 /// Every entry with every fault that it can have.
 pub fn damaged_sheet(random: &mut Random, _: &Lists, turn: u64) -> Turn {
     let (k, fault) = entry_fault(turn as usize);
     let (job, sheet) = (any_accepted(random), sheets::damaged(random, k, fault));
-    let cells = vec![(entry_cell(k, fault), Expect::Refusal(2, k as u64))];
+    let cells = vec![(entry_cell(k, fault, 0), Expect::Refusal(2, k as u64))];
     Turn { calls: vec![judged(random, &job, &sheet, cells)], relation: Relation::Nothing }
 }
 
@@ -82,19 +76,30 @@ pub fn entry_fault(turn: usize) -> (usize, usize) {
     }
 }
 
-pub fn entry_cell(k: usize, fault: usize) -> Cell {
-    cell("damaged entry", [k as u32, fault as u32, 0, 0])
+/// The kind of calls is 0 for the whole call and 8 for the call on two ends, as it is of lengths.
+pub fn entry_cell(k: usize, fault: usize, kind: u32) -> Cell {
+    cell("damaged entry", [k as u32, fault as u32, kind, 0])
 }
 
 /// Every length from 0 to 510 but 502, and longer ones.
 pub fn sheet_length(random: &mut Random, _: &Lists, turn: u64) -> Turn {
+    let (sheet, expect) = long_sheet(random, turn);
+    let cells = vec![(length_cell(sheet.len(), 0), expect)];
+    let (job, fill) = (any_accepted(random), random.next());
+    let call = Call::Verdict { sheet, file: files::whole(&job), report: 180, fill };
+    single(call, cells)
+}
+
+/// A sheet of a length in turn, and what has to be answered.
+pub fn long_sheet(random: &mut Random, turn: u64) -> (Vec<u8>, Expect) {
     let length = [(turn % 514) as usize, 1004, 502 + 65_536][usize::from(turn % 514 > 510) * (1 + turn as usize % 2)];
     let mut sheet = to_bytes(&valid(random));
     sheet.resize(length, 0);
-    let (job, fill) = (any_accepted(random), random.next());
-    let call = Call::Verdict { sheet, file: files::whole(&job), report: 180, fill };
-    let expect = if length == 502 { Expect::Success } else { Expect::Refusal(1, length as u64) };
-    single(call, vec![(cell("length of a sheet", [length as u32, 0, 0, 0]), expect)])
+    (sheet, if length == 502 { Expect::Success } else { Expect::Refusal(1, length as u64) })
+}
+
+pub fn length_cell(length: usize, kind: u32) -> Cell {
+    cell("length of a sheet", [length as u32, kind, 0, 0])
 }
 
 /// A file through reading or through the whole call.

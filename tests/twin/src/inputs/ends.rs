@@ -1,6 +1,7 @@
 //! Every field at, just inside and just outside the ends of its range, and the contradictions and walls beside them.
 
 use super::jobs::accepted;
+use crate::coverage::{Cell, cell};
 use crate::paper::job::{Fields, Job, range};
 use crate::random::Random;
 
@@ -47,15 +48,45 @@ fn values(field: usize, family: u32, enclosure: u32) -> Vec<u32> {
 pub fn job(random: &mut Random, end: End) -> Job {
     let tube = random.within(1, 2);
     let job = accepted(random, end.family, tube, end.enclosure).with(end.field, end.value);
-    match end.field {
+    suited(random, job, end.field)
+}
+
+/// The job with its other fields put to where they are valid beside the field, whatever that is.
+pub fn suited(random: &mut Random, job: Job, field: usize) -> Job {
+    match field {
         1 => job.with(3, random.pick(&[105, 130])).with(7, random.within(1, 2_400)).with(20, 200).with(21, 1),
-        9 => job.with(10, job.field(10).min(end.value.max(1))),
+        9 => job.with(10, job.field(10).min(job.field(9).max(1))),
         10 => job.with(9, 10),
         11 => job.with(12, 30_000),
-        12 => job.with(11, end.value.min(random.within(0, 10_000))),
+        12 => job.with(11, job.field(12).min(random.within(0, 10_000))),
         17 => job.with(18, random.within(300, 700)),
         _ => job,
     }
+}
+
+/// As many numbers as there are ends, contradictions and walls.
+pub fn count(ends: &[End]) -> u64 {
+    ends.len() as u64 + u64::from(CONTRADICTIONS)
+}
+
+/// The job of a number: every end of a range, then the contradictions and walls; with its cell in a kind of calls.
+pub fn numbered(random: &mut Random, ends: &[End], number: u64, kind: u32) -> (Job, Cell) {
+    let number = (number % count(ends)) as usize;
+    match ends.get(number) {
+        Some(&end) => (job(random, end), end_cell(end, kind)),
+        None => {
+            let number = (number - ends.len()) as u32;
+            (contradiction(random, number), contradiction_cell(number, kind))
+        }
+    }
+}
+
+pub fn end_cell(end: End, kind: u32) -> Cell {
+    cell("end of a range", [end.field as u32, end.family * 10 + end.enclosure, end.value, kind])
+}
+
+pub fn contradiction_cell(number: u32, kind: u32) -> Cell {
+    cell("contradiction or wall", [number, kind, 0, 0])
 }
 
 /// Contradictions: layers worked on against layers boarded, loads summed against the greatest, both, and bad walls.

@@ -38,7 +38,12 @@ pub fn call(random: &mut Random, kind: usize, faults: &[u64]) -> Call {
 fn job(random: &mut Random, outside: bool, contradicts: bool, bad_wall: bool) -> Job {
     let (family, tube, enclosure) =
         (if bad_wall { 2 } else { random.within(1, 2) }, random.within(1, 2), random.within(1, 3));
-    let mut job = accepted(random, family, tube, enclosure);
+    let job = accepted(random, family, tube, enclosure);
+    spoiled(random, job, [outside, contradicts, bad_wall])
+}
+
+/// An accepted job with the faults; only a single row can have the last.
+pub fn spoiled(random: &mut Random, mut job: Job, [outside, contradicts, bad_wall]: [bool; 3]) -> Job {
     if bad_wall {
         job = if random.once_in(2) { job.with(20, random.within(0, 180)) } else { job.with(21, random.within(2, 3)) };
     }

@@ -95,7 +95,7 @@ fn together_cell(family: u32, one: ([Option<u32>; 2], u8), other: ([Option<u32>;
 }
 
 /// Where a stability height lies: 0 none, 1 at 0, 2 up to 2,534, 3 from 2,535 to 2,599, 4 above.
-fn range(stability: Option<u32>) -> u32 {
+pub fn range(stability: Option<u32>) -> u32 {
     match stability {
         None => 0,
         Some(0) => 1,
@@ -111,7 +111,7 @@ fn standing(height: u32, permitted: Option<u32>) -> u32 {
 }
 
 /// What becomes of the permitted height from one job to the other: 0 equal, 1 falls, 2 vanishes, 3 rises.
-fn change(one: Option<u32>, other: Option<u32>) -> u32 {
+pub fn change(one: Option<u32>, other: Option<u32>) -> u32 {
     match (one, other) {
         _ if one == other => 0,
         (Some(_), None) => 2,

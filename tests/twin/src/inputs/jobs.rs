@@ -91,7 +91,11 @@ pub fn heavier(random: &mut Random, first: &Job) -> Job {
 fn with_free_fields(random: &mut Random, job: Job, first: &Job) -> Job {
     let soil = random.within(1, 5);
     let weaker = soil_factor(soil) <= soil_factor(first.field(23));
-    let job = if weaker { job.with(23, soil) } else { job };
+    with_any_wall(random, if weaker { job.with(23, soil) } else { job })
+}
+
+/// The job with another thickness and make of its wall.
+pub fn with_any_wall(random: &mut Random, job: Job) -> Job {
     let (thinnest, thickest) = bounds(&job, 20);
     let (lowest, highest) = bounds(&job, 21);
     job.with(20, random.within(thinnest, thickest)).with(21, random.within(lowest, highest))

@@ -1,6 +1,10 @@
 //! The calls of the run: a fixed list of kinds for each block of calls, each kind taken in turn.
 
 pub mod any_job;
+pub mod between;
+pub mod between_checks;
+pub mod between_damage;
+pub mod between_order;
 pub mod book_damage;
 pub mod book_kinds;
 pub mod book_rows;
@@ -46,6 +50,8 @@ pub enum Relation {
     Pair,
     /// Demand 3's second half: the calls' jobs differ in height alone.
     Heights,
+    /// Request 6/14: the call on two ends, verdicts on both, and verdicts on jobs between them.
+    Between,
 }
 
 /// The calls of one turn.
@@ -65,6 +71,9 @@ pub struct Lists {
     /// What to aim at for every cell of check 12, by one job and by two.
     pub alone: heights::Ways<heights::Way>,
     pub together: heights::Ways<[heights::Way; 2]>,
+    /// What the turns on the order of two ends go through, and the heights of two ends to aim at.
+    pub order: between_order::Keys,
+    pub end_heights: between_checks::Heights,
 }
 
 impl Lists {
@@ -77,6 +86,8 @@ impl Lists {
             windy_supports: support_limits::windy(),
             alone: heights::ways_alone(),
             together: heights::ways_together(),
+            order: between_order::Keys::new(),
+            end_heights: between_checks::height_pairs(),
         }
     }
 }
@@ -88,7 +99,7 @@ struct Kind {
     calls: usize,
 }
 
-const KINDS: [Kind; 67] = [
+const KINDS: [Kind; 83] = [
     Kind { make: kinds::uniform, turns: 140, calls: 1 },
     Kind { make: damage::wild, turns: 24, calls: 1 },
     Kind { make: damage::end, turns: 90, calls: 1 },
@@ -154,8 +165,24 @@ const KINDS: [Kind; 67] = [
     Kind { make: book_rows::bad_in_short, turns: 1, calls: 1 },
     Kind { make: book_rows::alike, turns: 1, calls: 1 },
     Kind { make: book_rows::two_bad, turns: 1, calls: 1 },
-    Kind { make: book_rows::end, turns: 12, calls: 1 },
+    Kind { make: book_rows::end, turns: 14, calls: 1 },
     Kind { make: book_rows::wild, turns: 3, calls: 1 },
+    Kind { make: between_order::one_field, turns: 4, calls: 1 },
+    Kind { make: between_order::two_wrong, turns: 6, calls: 1 },
+    Kind { make: between_order::but_one, turns: 2, calls: 1 },
+    Kind { make: between_order::values, turns: 4, calls: 1 },
+    Kind { make: between_order::same, turns: 1, calls: 1 },
+    Kind { make: between_checks::limit, turns: 3, calls: 4 },
+    Kind { make: between_checks::due, turns: 1, calls: 4 },
+    Kind { make: between_checks::ends_of_heights, turns: 2, calls: 1 },
+    Kind { make: between_checks::band, turns: 3, calls: 1 },
+    Kind { make: between_checks::promised, turns: 6, calls: 7 },
+    Kind { make: between_damage::damaged_sheet, turns: 14, calls: 1 },
+    Kind { make: between_damage::sheet_length, turns: 10, calls: 1 },
+    Kind { make: between_damage::end, turns: 22, calls: 1 },
+    Kind { make: between_damage::three, turns: 1, calls: 1 },
+    Kind { make: between_damage::faults, turns: 8, calls: 1 },
+    Kind { make: between_damage::wild, turns: 4, calls: 1 },
 ];
 
 /// The number of calls in a block.

@@ -1,11 +1,16 @@
 //! The cells that a run of 100,000 calls or more has to fill, and those that cannot exist.
 
+use super::between_checks::{self, BANDS, DUE, OF_8, band_cell, band_key, due_cell, due_key, of_8_cell};
+use super::between_damage::{self, THREES, three_cell, three_key};
+use super::between_order::{
+    BUT_ONE, SAME, but_one_cell, but_one_key, one_field_cell, same_cell, same_key, values_cell, wrong_cell,
+};
 use super::book_damage::*;
 use super::book_kinds::*;
 use super::book_rows::*;
 use super::columns::Found;
-use super::damage::{ENTRY_FAULTS, end_cell, entry_cell, entry_fault, order_cell};
-use super::ends::CONTRADICTIONS;
+use super::damage::{ENTRY_FAULTS, entry_cell, entry_fault, length_cell, order_cell};
+use super::ends::{CONTRADICTIONS, contradiction_cell, end_cell};
 use super::heights::{AIMED, aimed, stability_cell};
 use super::kinds::*;
 use super::slender::*;
@@ -17,6 +22,7 @@ use super::tuned::{AIMS, Aim};
 use super::{Lists, faults, support_damage, support_kinds};
 use crate::coverage::{Cell, cell};
 use crate::round_trip::round_trip_cell;
+use crate::throughout::throughout_cell;
 
 /// Every cell that can be filled.
 pub fn cells(lists: &Lists) -> Vec<Cell> {
@@ -24,8 +30,10 @@ pub fn cells(lists: &Lists) -> Vec<Cell> {
     for kind in 0..3 {
         cells.extend(end_cells(lists, kind));
     }
-    cells.extend((0..ENTRY_FAULTS).map(entry_fault).map(|(k, fault)| entry_cell(k, fault)));
-    cells.extend((0..=510).chain([1004, 502 + 65_536]).map(|length| cell("length of a sheet", [length, 0, 0, 0])));
+    for kind in [0, between_damage::KIND] {
+        cells.extend((0..ENTRY_FAULTS).map(entry_fault).map(|(k, fault)| entry_cell(k, fault, kind)));
+        cells.extend((0..=510).chain([1004, 502 + 65_536]).map(|length| length_cell(length, kind)));
+    }
     for reads in [0, 1] {
         cells.extend((0..125).map(|number| cell("broken number", [number / 5, number % 5, reads, 25])));
         cells.extend((0..43).map(|cut| cell("cut or lengthened file", [cut, reads, 25, 0])));
@@ -43,13 +51,16 @@ pub fn cells(lists: &Lists) -> Vec<Cell> {
     cells.extend(books());
     cells.extend(damaged_books());
     cells.extend(bad_rows(lists));
+    cells.extend(order_of_ends(lists));
+    cells.extend(told_of_ends(lists));
+    cells.extend(refused_ends(lists));
     cells
 }
 
 /// The ends of ranges, the contradictions and the walls through one kind of call.
 fn end_cells(lists: &Lists, kind: u32) -> Vec<Cell> {
     let ends = lists.ends.iter().map(|&end| end_cell(end, kind));
-    ends.chain((0..CONTRADICTIONS).map(|number| cell("contradiction or wall", [number, kind, 0, 0]))).collect()
+    ends.chain((0..CONTRADICTIONS).map(|number| contradiction_cell(number, kind))).collect()
 }
 
 fn supports(lists: &Lists) -> Vec<Cell> {
@@ -163,7 +174,7 @@ fn orders() -> Vec<Cell> {
 
 /// The cell of a refusal: by its place where the place is a field, else by its number alone.
 pub fn refusal_cell(kind: u32, number: u64, place: u64) -> Cell {
-    let place = if (3..=5).contains(&number) { place as u32 } else { 0 };
+    let place = if matches!(number, 3..=5 | 12) { place as u32 } else { 0 };
     cell("refusal", [kind, number as u32, place, 0])
 }
 
@@ -234,5 +245,46 @@ fn bad_rows(lists: &Lists) -> Vec<Cell> {
     for kind in KINDS {
         cells.extend(end_cells(lists, kind));
     }
+    cells
+}
+
+fn order_of_ends(lists: &Lists) -> Vec<Cell> {
+    let keys = &lists.order;
+    let mut cells: Vec<Cell> = keys.one.iter().map(|&key| one_field_cell(key)).collect();
+    cells.extend(keys.wrong.iter().map(|&fields| wrong_cell(fields)));
+    cells.extend(keys.values.iter().map(|&key| values_cell(key)));
+    cells.extend((0..BUT_ONE).map(but_one_key).map(but_one_cell));
+    cells.extend((0..SAME).map(same_key).map(same_cell));
+    cells
+}
+
+fn told_of_ends(lists: &Lists) -> Vec<Cell> {
+    let mut cells: Vec<Cell> = lists.end_heights.keys().copied().collect();
+    for told in 1..=3 {
+        cells.extend((0..AIMS).map(Aim::number).map(|aim| between_checks::limit_cell(aim, told)));
+        cells.extend((1..=12).map(|check| throughout_cell(check, told)));
+    }
+    cells.extend((1..=4).map(|heights| throughout_cell(13, heights)));
+    for (family, tube) in [(1, 1), (1, 2), (2, 1), (2, 2)] {
+        cells.extend(OF_8.map(|verdicts| of_8_cell(family, tube, verdicts)));
+    }
+    cells.extend((0..DUE).map(due_key).map(due_cell));
+    cells.extend((0..BANDS).map(band_key).map(band_cell));
+    cells
+}
+
+// Of the order only fields 20 and 21 are never named.
+fn refused_ends(lists: &Lists) -> Vec<Cell> {
+    let (kind, order) = (between_damage::KIND, between_damage::ORDER);
+    let mut cells: Vec<Cell> = between_damage::KINDS.into_iter().flat_map(|kind| end_cells(lists, kind)).collect();
+    cells.extend((0..THREES).map(three_key).map(three_cell));
+    for (place, &first) in order.iter().enumerate() {
+        cells.extend(order[place + 1..].iter().map(|&later| order_cell(kind as usize, first, later)));
+    }
+    cells.extend([1, 2].map(|number| refusal_cell(kind, number, 0)));
+    cells.extend((1..=50).map(|place| refusal_cell(kind, 3, place)));
+    cells.extend([10, 12, 35, 37].map(|place| refusal_cell(kind, 4, place)));
+    cells.extend([20, 21, 45, 46].map(|place| refusal_cell(kind, 5, place)));
+    cells.extend((1..=25).filter(|place| !matches!(place, 20 | 21)).map(|place| refusal_cell(kind, 12, place)));
     cells
 }

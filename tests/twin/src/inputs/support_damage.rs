@@ -1,7 +1,8 @@
 //! The turns on supports that are refused or nearly so: ends of ranges, first numbers, files, buffers, several faults.
 
 use super::any_job::AnyJob;
-use super::damage::{broken_number, cut_file, end_cell, expected, expected_of_file, filed, lent_length, order_cell};
+use super::damage::{broken_number, cut_file, expected, expected_of_file, filed, lent_length, order_cell};
+use super::ends::end_cell;
 use super::faults::{chosen, file as faulty_file, sheet as faulty_sheet};
 use super::kinds::{single, through};
 use super::sheets::{to_bytes, valid};
