@@ -1,7 +1,7 @@
-//! The twin's own answers to the whole call, for sheets and job files that are given line by line.
+//! The twin's own answers to the whole call and to the call on two ends, for inputs that are given line by line.
 
-use crate::call::unhex;
-use crate::paper::calls::verdict;
+use crate::call::{counted, list, unhex};
+use crate::paper::calls::{between, verdict};
 use std::io::{BufRead, BufWriter, Write};
 
 /// More bytes than any report has.
@@ -23,17 +23,41 @@ pub fn answer_lines(lines: impl BufRead, out: impl Write) -> Result<(), String> 
     out.flush().map_err(said)
 }
 
-/// The answer to "SHEET FILE": the report, its lines joined by '|', or the refusal and its place.
+/// The answer to "SHEET FILE", or to "between SHEET MILD HARSH"; no sheet in hexadecimal begins with that word.
 fn answer(line: &str) -> Result<String, String> {
+    match line.strip_prefix("between ") {
+        Some(ends) => on_ends(ends),
+        None => on_file(line),
+    }
+}
+
+/// The report, its lines joined by '|', or the refusal and its place.
+fn on_file(line: &str) -> Result<String, String> {
     let (sheet, file) = line.split_once(' ').ok_or("a sheet and a file are given, with one space between them")?;
     let (sheet, file) = (bytes("sheet", sheet)?, bytes("file", file)?);
     let mut report = [0; ROOM];
     let returned = verdict(&sheet, &file, &mut report);
-    if returned >> 32 != 0 {
-        return Ok(format!("refused {} {}", returned >> 32, returned & 0xFFFF_FFFF));
-    }
-    let text = String::from_utf8_lossy(&report[..returned as usize]);
-    Ok(text.trim_end_matches('\n').replace('\n', "|"))
+    Ok(refused(returned).unwrap_or_else(|| {
+        let text = String::from_utf8_lossy(&report[..returned as usize]);
+        text.trim_end_matches('\n').replace('\n', "|")
+    }))
+}
+
+/// The 14 numbers with spaces between them, or the refusal and its place.
+fn on_ends(ends: &str) -> Result<String, String> {
+    let parts: Vec<&str> = ends.split(' ').collect();
+    let [sheet, mild, harsh] = parts[..] else {
+        return Err("a sheet, a mild and a harsh job are given, with one space between each two".to_string());
+    };
+    let (sheet, mild, harsh) = (bytes("sheet", sheet)?, counted(list(mild)?)?, counted(list(harsh)?)?);
+    let mut told = [0; 14];
+    let returned = between(&sheet, &mild, &harsh, &mut told);
+    Ok(refused(returned).unwrap_or_else(|| told.map(|number| number.to_string()).join(" ")))
+}
+
+fn refused(returned: u64) -> Option<String> {
+    let (number, place) = (returned >> 32, returned & 0xFFFF_FFFF);
+    (number != 0).then(|| format!("refused {number} {place}"))
 }
 
 fn bytes(name: &str, text: &str) -> Result<Vec<u8>, String> {

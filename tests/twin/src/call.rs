@@ -162,10 +162,10 @@ fn length(text: &str) -> Result<usize, String> {
 }
 
 /// Numbers with commas between them, or none at all.
-fn list(text: &str) -> Result<Vec<u32>, String> {
+pub fn list(text: &str) -> Result<Vec<u32>, String> {
     if text.is_empty() { Ok(Vec::new()) } else { text.split(',').map(number).collect() }
 }
 
-fn counted<const N: usize>(numbers: Vec<u32>) -> Result<[u32; N], String> {
+pub fn counted<const N: usize>(numbers: Vec<u32>) -> Result<[u32; N], String> {
     numbers.try_into().map_err(|_| format!("the call takes {N} numbers, with commas between them"))
 }

@@ -13,7 +13,8 @@ A CALL is the words that a differing call printed: verdict sheet=HEX file=HEX re
 write numbers=N,N,.. file=LENGTH fill=N, write-support numbers=N,N,.. file=LENGTH fill=N, read file=HEX fill=N,
 write-book numbers=N,N,.. book=LENGTH fill=N, read-book book=HEX numbers=COUNT fill=N, or
 between sheet=HEX mild=N,N,.. harsh=N,N,.. fill=N.
---answers reads lines \"SHEET FILE\", each the bytes in hexadecimal or '-' for none, and gives the twin's answers.";
+--answers reads lines \"SHEET FILE\", each the bytes in hexadecimal or '-' for none, and lines
+\"between SHEET MILD HARSH\", each job 25 numbers with commas between them, and gives the twin's answers.";
 
 /// What is asked for.
 pub enum Task {
