@@ -8,6 +8,7 @@ mod demand3;
 mod hand_books;
 mod inputs;
 mod marked;
+mod marked_between;
 mod marked_books;
 mod marked_heights;
 mod marked_supports;
