@@ -117,7 +117,7 @@ pub fn library_write_book(numbers: &[u32], lent: &mut [u8]) -> u64 {
 }
 
 /// The library's whole call, on slices.
-pub fn library_verdict(sheet: &[u8], file: &[u8], lent: &mut [u8]) -> u64 {
+fn library_verdict(sheet: &[u8], file: &[u8], lent: &mut [u8]) -> u64 {
     unsafe { rembilung_verdict(sheet.as_ptr(), sheet.len(), file.as_ptr(), file.len(), lent.as_mut_ptr(), lent.len()) }
 }
 

@@ -1,13 +1,12 @@
 //! The paper's own marked cases, tried on the twin and on the library.
 
 use crate::call::Call;
-use crate::compare::{both, library_verdict};
+use crate::compare::{LIBRARY, TWIN, both};
 use crate::inputs::columns::{ABOVE, ENDS, INSIDE, JUST_BELOW, UP_TO, WHOLE, tenths};
 use crate::inputs::exact::{self, Atlas};
 use crate::inputs::files::whole;
 use crate::inputs::sheets::{sheet_t, to_bytes};
 use crate::inputs::tuned::{AIMS, Aim};
-use crate::paper::calls;
 use crate::paper::file::groups;
 use crate::paper::fraction::d;
 use crate::paper::job::{Fields, Job};
@@ -186,7 +185,8 @@ fn long_sheet() -> Cases {
         return Vec::new();
     }
     let sheet = unsafe { std::slice::from_raw_parts(start, length) };
-    let returned = [library_verdict(sheet, &[], &mut []), calls::verdict(sheet, &[], &mut [])];
+    let returned = [LIBRARY, TWIN]
+        .map(|side| [(side.verdict)(sheet, &[], &mut []), (side.between)(sheet, &J.0, &J.0, &mut [0; 14])]);
     unsafe { std::alloc::dealloc(start, layout) };
-    vec![case("a place above 4,294,967,295 is given as that", returned == [(1 << 32) + 4_294_967_295; 2])]
+    vec![case("a place above 4,294,967,295 is given as that", returned == [[(1 << 32) + 4_294_967_295; 2]; 2])]
 }

@@ -22,10 +22,14 @@ impl Keys {
     }
 }
 
-/// Field, whether it goes up, whether farther than a step, and the mild job's family.
+/// Field, whether it goes up, whether farther than a step, and the mild job's family; the wrong way before the other.
 /// A single row's wall is of one make, and a family goes up from a double row and down from a single one.
 fn one_field_keys() -> Vec<[u32; 4]> {
-    let key = |number: u32| [1 + number % 25, number / 25 % 2, number / 100, 1 + number / 50 % 2];
+    let key = |number: u32| {
+        let field = 1 + number % 25;
+        let wrong = Move::towards(field as usize, false).is_some_and(|step| step.up);
+        [field, (number / 25 + u32::from(wrong)) % 2, number / 100, 1 + number / 50 % 2]
+    };
     let exists = |&[field, up, _, family]: &[u32; 4]| match field {
         1 => (up == 1) == (family == 1),
         21 => family == 1,
