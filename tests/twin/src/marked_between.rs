@@ -1,4 +1,4 @@
-//! Marked cases of two ends, worked out by hand from document 01 and request 6/14, tried on the twin and on the library.
+//! Marked cases of two ends, worked out by hand from document 01 and request 6/14, tried on twin and library.
 
 mod refused;
 mod told;

@@ -193,7 +193,8 @@ fn count(planned: &Planned, library: &Answer, table: &mut Table) -> Option<Repor
     report
 }
 
-/// Refusals are counted by these kinds: verdict, write and read of jobs 0 to 2, of supports 3 to 5; books 6 and 7; two ends 8.
+/// Refusals are counted by these kinds: verdict, write and read of jobs 0 to 2, of supports 3 to 5; books 6 and 7;
+/// two ends 8.
 fn kind(call: &Call) -> u32 {
     let is_support = |file: &[u8]| file.first() == Some(&3);
     match call {

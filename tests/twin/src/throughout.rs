@@ -73,7 +73,7 @@ pub fn cells(told: &[u32; 14]) -> impl Iterator<Item = Cell> {
     (1..=12).map(|check| throughout_cell(check, told[check - 1])).chain([throughout_cell(13, heights)])
 }
 
-/// Checks 1 to 12 with what was told; 13 with 1 for heights that fall, 2 equal, 3 none at the harsh end, 4 none at both.
+/// Checks 1 to 12 with what was told; 13 with 1 for heights that fall, 2 equal, 3 none at the harsh end, 4 at both.
 pub fn throughout_cell(check: usize, told: u32) -> Cell {
     cell("told of jobs between", [check as u32, told, 0, 0])
 }

@@ -108,8 +108,8 @@ pub fn pair_moved(
     })
 }
 
-/// The ordered fields in a sequence in which each leaves the next its room as they get harsher: layers boarded go before
-/// layers worked on, loads summed before the greatest. Getting milder they go the other way about.
+/// The ordered fields in a sequence in which each leaves the next its room as they get harsher: layers boarded go
+/// before layers worked on, loads summed before the greatest. Getting milder they go the other way about.
 const ORDERED: [usize; 18] = [3, 4, 5, 6, 7, 9, 10, 12, 11, 13, 14, 15, 16, 18, 22, 23, 24, 25];
 
 /// The job with ordered fields harsher or milder, each once in so many times, but for some of them.

@@ -19,6 +19,9 @@ pub const KIND: u32 = 8;
 /// The same for ends of ranges and contradictions in the mild job, in the harsh job and in both.
 pub const KINDS: [u32; 3] = [8, 9, 10];
 
+/// Turns go through long lists in strides of so many, so that the first few reach all kinds of faults.
+const STRIDE: u64 = 37;
+
 /// Two jobs in order, or such as are refused behind a sheet.
 fn any_pair(random: &mut Random, lists: &Lists) -> Pair {
     let (number, any) = (random.next(), any_accepted(random));
@@ -49,7 +52,7 @@ pub fn sheet_length(random: &mut Random, lists: &Lists, number: u64) -> Turn {
 
 /// Every end of a range, contradiction and wall in the mild job, in the harsh one, and one in each.
 pub fn end(random: &mut Random, lists: &Lists, number: u64) -> Turn {
-    let (which, number) = ((number % 3) as usize, number / 3);
+    let (which, number) = ((number % 3) as usize, number / 3 * STRIDE);
     let (job, key) = numbered(random, &lists.ends, number, KINDS[which]);
     let stands = accept(&job).is_ok();
     let pair = match which {
@@ -99,7 +102,7 @@ pub const ORDER: [u64; 9] = [1, 2, 3, 4, 5, 28, 29, 30, 12];
 
 /// Sets of faults; the first in order has to be the one refused, at its own place.
 pub fn faults(random: &mut Random, _: &Lists, number: u64) -> Turn {
-    let faults = chosen(&ORDER, 1 + number % 511);
+    let faults = chosen(&ORDER, 1 + number * STRIDE % 511);
     let has = |fault: u64| faults.contains(&fault);
     let family = if has(5) || has(30) { 2 } else { random.within(1, 2) };
     let wrong = has(12);

@@ -87,7 +87,7 @@ pub fn but_one_key(number: u64) -> [u32; 2] {
     [1 + (number % 25) as u32, (number / 25 % 2) as u32]
 }
 
-/// Every field harsher that has room, but for one: that is equal, or goes the wrong way, or either way where it is free.
+/// Every field harsher that has room, but one: that is equal, or goes the wrong way, or either way where it is free.
 pub fn but_one(random: &mut Random, _: &Lists, number: u64) -> Turn {
     let key @ [field, moves] = but_one_key(number);
     let (field, far) = (field as usize, random.once_in(2));

@@ -1,4 +1,4 @@
-//! Two ends that are refused: the sheet, ranges in either job, contradictions and walls, the order, and what goes first.
+//! Two ends that are refused: the sheet, ranges in either job, contradictions, walls, the order, and what goes first.
 
 use super::{is_accepted, is_refused, is_refused_under, named};
 use crate::inputs::sheets::{Entries, sheet_t, to_bytes};
