@@ -6,16 +6,15 @@ use mathlib.Core.List.{List, [], ◌∷◌}
 use mathlib.Core.Logic.{◌↔◌, ◌⊎◌, inl, inr, ⊎_elim}
 use Prim.Native.Nat.{ℕ, zero, suc}
 use native.Mathlib.Omega.{arith}
-use lib.Dec.{T, eqb, leb, eqb→eq, leb→le, le→leb}
+use lib.Dec.{T, eqb, leb}
+use Rattle.std.proofs.Math.Facts.{eqb_yes, yes_eqb, leb_yes, yes_leb}
 use lib.ListN.{length, get_or, set}
 use Rattle.std.proofs.lemmas.List.{length-set}
-use borrow.Author.Tests.{eq-eqb}
 use Rattle.basis.specs.Fraction.{◌≼◌}
-use Rattle.basis.specs.Rows.{Refused, Follows}
+use Rattle.basis.specs.Rows.{First, Refused, Follows}
 use Rattle.basis.specs.Refusal.{nothing}
 use Rattle.basis.specs.declared.Refusal.TheVariants.{Disorder}
-use Rattle.basis.proofs.Tests.{holds}
-use Rattle.basis.proofs.Lowest.{lowest_none, lowest_is, lowest_every, set_passes}
+use Rattle.basis.proofs.Lowest.{Fails, lowest_none, lowest_is, lowest_every, set_passes}
 use Rattle.basis.proofs.Rows.{refused_is}
 use Rattle.job.specs.declared.Job.{Job}
 use Rattle.job.specs.Job.{job_of, numbers}
@@ -35,67 +34,39 @@ all_at [] All.none i = tt
 all_at (test ∷ tests) (All.also t h) zero = t
 all_at (test ∷ tests) (All.also t h) (suc i) = all_at tests h i
 
-equal : (a b : ℕ) → a ≡ b → T (eqb a b)
-equal a b e = holds (eq-eqb a b e)
-
 module _ (m k : Job) where
   harsher_passes : Harsher m k → (i : ℕ) → T (get_or (in_order m k) i true)
   unfolding in_order
   harsher_passes h =
-      all_at (in_order m k)
-      (All.also (equal m.family k.family h.family)
-      (All.also (equal m.tube k.tube h.tube)
-      (All.also (le→leb m.lb k.lb h.lb)
-      (All.also (le→leb m.la k.la h.la)
-      (All.also (le→leb m.step k.step h.step)
-      (All.also (le→leb m.ties k.ties h.ties)
-      (All.also (le→leb m.height k.height h.height)
-      (All.also (equal m.boards k.boards h.boards)
-      (All.also (le→leb m.boarded k.boarded h.boarded)
-      (All.also (le→leb m.working k.working h.working)
-      (All.also (le→leb m.q k.q h.q)
-      (All.also (le→leb m.total k.total h.total)
-      (All.also (le→leb m.nets k.nets h.nets)
-      (All.also (le→leb m.weight k.weight h.weight)
-      (All.also (le→leb m.wind k.wind h.wind)
-      (All.also (le→leb m.exposure k.exposure h.exposure)
-      (All.also (equal m.enclosure k.enclosure h.enclosure)
-      (All.also (le→leb m.shield k.shield h.shield)
-      (All.also (equal m.wall k.wall h.wall)
-      (All.also tt
-      (All.also tt
-      (All.also (le→leb k.capacity m.capacity h.capacity)
-      (All.also h.soil
-      (All.also (le→leb k.strength m.strength h.strength)
-      (All.also (le→leb k.pad m.pad h.pad) All.none)))))))))))))))))))))))))
+      all_at (in_order m k) (search (All.also, All.none, yes_eqb, yes_leb) depth 30)
 
   passes_harsher : ((i : ℕ) → T (get_or (in_order m k) i true)) → Harsher m k
   unfolding in_order
   passes_harsher h =
       record {
-        family = eqb→eq m.family k.family (h 0);
-        tube = eqb→eq m.tube k.tube (h 1);
-        lb = leb→le m.lb k.lb (h 2);
-        la = leb→le m.la k.la (h 3);
-        step = leb→le m.step k.step (h 4);
-        ties = leb→le m.ties k.ties (h 5);
-        height = leb→le m.height k.height (h 6);
-        boards = eqb→eq m.boards k.boards (h 7);
-        boarded = leb→le m.boarded k.boarded (h 8);
-        working = leb→le m.working k.working (h 9);
-        q = leb→le m.q k.q (h 10);
-        total = leb→le m.total k.total (h 11);
-        nets = leb→le m.nets k.nets (h 12);
-        weight = leb→le m.weight k.weight (h 13);
-        wind = leb→le m.wind k.wind (h 14);
-        exposure = leb→le m.exposure k.exposure (h 15);
-        enclosure = eqb→eq m.enclosure k.enclosure (h 16);
-        shield = leb→le m.shield k.shield (h 17);
-        wall = eqb→eq m.wall k.wall (h 18);
-        capacity = leb→le k.capacity m.capacity (h 21);
+        family = eqb_yes (h 0);
+        tube = eqb_yes (h 1);
+        lb = leb_yes (h 2);
+        la = leb_yes (h 3);
+        step = leb_yes (h 4);
+        ties = leb_yes (h 5);
+        height = leb_yes (h 6);
+        boards = eqb_yes (h 7);
+        boarded = leb_yes (h 8);
+        working = leb_yes (h 9);
+        q = leb_yes (h 10);
+        total = leb_yes (h 11);
+        nets = leb_yes (h 12);
+        weight = leb_yes (h 13);
+        wind = leb_yes (h 14);
+        exposure = leb_yes (h 15);
+        enclosure = eqb_yes (h 16);
+        shield = leb_yes (h 17);
+        wall = eqb_yes (h 18);
+        capacity = leb_yes (h 21);
         soil = h 22;
-        strength = leb→le k.strength m.strength (h 23);
-        pad = leb→le k.pad m.pad (h 24);
+        strength = leb_yes (h 23);
+        pad = leb_yes (h 24);
       }
 
 -- the tests of two rows of numbers, place by place
@@ -121,6 +92,7 @@ set_at (x ∷ row) [] i e t = tt
 set_at (x ∷ row) (y ∷ others) zero e t = t
 set_at (x ∷ row) (y ∷ others) (suc i) e t = set_at row others i (omega arith) t
 
+-- what each field is tested by
 tests : List (ℕ → ℕ → Bool)
 tests =
     eqb ∷ eqb ∷ leb ∷ leb ∷ leb ∷ leb ∷ leb ∷ eqb ∷ leb ∷ leb ∷ leb ∷ leb ∷ leb ∷ leb ∷ leb ∷ leb ∷ eqb ∷ leb ∷ eqb ∷ free ∷ free
@@ -146,7 +118,6 @@ module _ (m k : Job) where
       long : length (set (numbers m) i (get_or (numbers k) i 0)) ≡ 25
       long = length-set (numbers m) i (get_or (numbers k) i 0)
 
-  -- one field is in the order exactly where its test passes
   as_long : length (in_order m m) ≡ length (in_order m k)
   unfolding in_order
   as_long = refl
@@ -155,21 +126,34 @@ module _ (m k : Job) where
   unfolding with_field
   at_none = demand3.reflexive m
 
+  -- one field is in the order exactly where its test passes
   holds_at : (p : ℕ) → Harsher m (with_field p k m) ↔ T (get_or (true ∷ in_order m k) p true)
   holds_at zero = (λ h. tt, λ t. at_none)
-  holds_at (suc i) = (λ h. set_at (in_order m m) (in_order m k) i as_long (rw (← one_field i) (harsher_passes m (with_field (suc i) k m) h i)), λ t. passes_harsher m (with_field (suc i) k m) (rw (one_field i) (set_passes (in_order m m) i (get_or (in_order m k) i true) t (harsher_passes m m (demand3.reflexive m)))))
+  holds_at (suc i) = (
+    λ h. set_at (in_order m m) (in_order m k) i as_long (rw (← one_field i) (harsher_passes m (with_field (suc i) k m) h i)),
+    λ t. passes_harsher m (with_field (suc i) k m) (rw (one_field i) (set_passes (in_order m m) i (get_or (in_order m k) i true) t (harsher_passes m m (demand3.reflexive m)))),
+  )
+
+  -- so the first that is not is the first whose test fails
+  first_fails : (p : ℕ) → First (Disordered m k) p → First (Fails (true ∷ in_order m k)) p
+  unfolding Disordered
+  first_fails p f = record { here = λ t. f.here ((holds_at p).1 t); before = λ i l d. f.before i l (λ h. d ((holds_at i).0 h)) }
+
+  first_disordered : (p : ℕ) → First (Fails (true ∷ in_order m k)) p → First (Disordered m k) p
+  unfolding Disordered
+  first_disordered p f = record { here = λ h. f.here ((holds_at p).0 h); before = λ i l d. f.before i l (λ t. d ((holds_at i).1 t)) }
 
   follows : Follows (disorder m k) (Row m k) (Harsher m k)
-  unfolding disorder Disordered
+  unfolding disorder
   follows =
       record {
         row = row;
         none = λ h. lowest_none Disorder (in_order m k) (counted h);
-        every = ⊎_elim (λ i. inl (passes_harsher m k (λ n. i (suc n)))) (λ f. inr (12, (f.0, Row.unlike f.0 (record { here = λ h. f.1.here ((holds_at f.0).0 h); before = λ i l d. f.1.before i l (λ t. d ((holds_at i).1 t)) })))) (lowest_every (true ∷ in_order m k));
+        every = ⊎_elim (λ h. inl (passes_harsher m k (λ i. h (suc i)))) (λ f. inr (12, (f.0, Row.unlike f.0 (first_disordered f.0 f.1)))) (lowest_every (true ∷ in_order m k));
       }
     where
       row : (n p : ℕ) → Row m k n p → Refused (disorder m k) n p
-      row n p (Row.unlike q f) = refused_is (Disorder q) (lowest_is Disorder (in_order m k) q (record { here = λ t. f.here ((holds_at q).1 t); before = λ i l d. f.before i l (λ h. d ((holds_at i).0 h)) }))
+      row n p (Row.unlike q f) = refused_is (Disorder q) (lowest_is Disorder (in_order m k) q (first_fails q f))
 
       counted : Harsher m k → (p : ℕ) → T (get_or (true ∷ in_order m k) p true)
       counted h zero = tt

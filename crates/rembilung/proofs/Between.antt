@@ -8,7 +8,7 @@ use mathlib.Core.Logic.{◌⊎◌, inl, inr, ⊎_elim}
 use native.Mathlib.Omega.{arith}
 use lib.Dec.{eqb, lit≤}
 use lib.ListN.{length}
-use Rattle.std.specs.Prelude.{Result, Ok, Option, None, Some as Height}
+use Rattle.std.specs.Prelude.{Result, Ok}
 use Rattle.basis.specs.Refusal.{number, place, Examined, nothing, unless, first}
 use Rattle.sheet.specs.Sheet as Sheet
 use Rattle.basis.specs.declared.Refusal.TheVariants.{SheetLength}
@@ -22,11 +22,9 @@ use Rattle.job.specs.Rows as Job
 use Rattle.job.specs.Examine.{examination}
 use Rattle.job.proofs.Rows as Job-told
 use borrow.Author.Tests.{eq-eqb}
-use Rattle.section5.specs.Section5.{heights, judgement}
-use Rattle.judge.specs.Answer.{Accepted, verdict_in, heights_in, stability_told}
+use Rattle.section5.specs.Section5.{judgement}
 use Rattle.judge.specs.Demand3.{stability_of}
 use Rattle.judge.specs.Demand3 as Judge
-use Rattle.judge.proofs.Ways.{stands_accepted, accepted_answer}
 use Rattle.between.specs.Order as Order
 use Rattle.between.specs.declared.Between.{Between as Told}
 use Rattle.between.specs.Order.{disorder}
@@ -41,9 +39,10 @@ use Rattle.rembilung.specs.Call.{entries_of, sheet_refusal, refusal_in, between_
 use Rattle.rembilung.specs.Table.{Refuses, SheetStands}
 use Rattle.rembilung.specs.Between.{BetweenRow, Ends, Lies, verdict_at, height_of, Says, Between}
 use Rattle.rembilung.specs.Header.{Halves}
-use Rattle.rembilung.proofs.Table.{entries_stand, sheet_follows}
+use Rattle.rembilung.proofs.Table.{sheet_follows}
 use Rattle.rembilung.proofs.Header.{halves}
 use Rattle.rembilung.proofs.Answered.{refuses}
+use Rattle.rembilung.proofs.Demands.{judged, verdict_judged, stability_judged}
 
 -- ---- What is refused
 
@@ -163,23 +162,13 @@ module _ (sheet mild harsh : List ℕ) where
 
 -- ---- What the numbers say
 
--- what is told of heights is the stability height
-told_height : (j : Job) (H : Option ℕ) → stability_told (heights j H) ≡ H
-unfolding heights
-told_height j None = refl
-told_height j (Height H) = refl
-
+-- of a job that stands, judging answers the paper's verdicts and its stability height
 module _ (sheet : List ℕ) (s : SheetStands sheet) (j : Job) (a : Job.Stands j) where
-  accepted : Accepted (entries_of sheet) j
-  accepted = stands_accepted (entries_of sheet) j (entries_stand sheet s) a
-
   verdict_is : (i : ℕ) → Judge.verdict_at (entries_of sheet) j i ≡ verdict_at sheet j i
-  unfolding judgement
-  verdict_is i = ap (λ r. verdict_in r i) (accepted_answer (entries_of sheet) j accepted)
+  verdict_is = verdict_judged (entries_of sheet) j (judged sheet j s a)
 
   height_is : stability_of (entries_of sheet) j ≡ height_of sheet j
-  unfolding judgement
-  height_is = ap (λ r. stability_told (heights_in r)) (accepted_answer (entries_of sheet) j accepted) ∙ told_height j (height_of sheet j)
+  height_is = stability_judged (entries_of sheet) j (judged sheet j s a)
 
 module _ (sheet mild harsh : List ℕ) (e : Ends sheet mild harsh) where
   abbrev b : Told
@@ -192,7 +181,7 @@ module _ (sheet mild harsh : List ℕ) (e : Ends sheet mild harsh) where
   held = throughout.holds (entries_of sheet) (job_of mild) (job_of harsh) b told_all
 
   lies : (j : Job) → Lies mild harsh j → Between.Lies (entries_of sheet) (job_of mild) (job_of harsh) j
-  lies j l = record { accepted = accepted sheet e.sheet_stands j l.stands; from_mild = l.from_mild; to_harsh = l.to_harsh }
+  lies j l = record { accepted = judged sheet j e.sheet_stands l.stands; from_mild = l.from_mild; to_harsh = l.to_harsh }
 
   says : Says sheet mild harsh (numbers b)
   says =

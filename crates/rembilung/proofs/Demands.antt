@@ -35,7 +35,7 @@ use Rattle.formwork.specs.Order as Order
 use Rattle.formwork.proofs.Ways as Supporting
 use Rattle.formwork.proofs.Order.{order}
 use Rattle.rembilung.specs.Call.{entries_of, call_code, call_buffer, write_code, write_buffer, read_code, read_buffer}
-use Rattle.rembilung.specs.Table.{Reads, Judges, Answers, SomeJob, report_of}
+use Rattle.rembilung.specs.Table.{SheetStands, Reads, Judges, Answers, SomeJob, report_of}
 use Rattle.rembilung.specs.Header.{report_most}
 use Rattle.rembilung.specs.Shown.{verdict_shown, height_shown, permitted_shown}
 use Rattle.rembilung.specs.Demands.{Demand1, Demand2, Demands}
@@ -116,12 +116,16 @@ module _ (sheet file out : List ℕ) (w : Bytes file) (ns : List ℕ) (a : Answe
   permitted_is : permitted_shown (call_buffer sheet file out) ≡ permitted_told (heights (job_of ns) (stability (job_of ns) (entries_of sheet)))
   permitted_is = rw (call_answered sheet file out w scaffold ns a).1 (heights_shown (job_of ns) (entries_of sheet) _).1
 
--- judging accepts what the call judges
+-- judging accepts a job that stands, under a sheet that does
+pub judged : (sheet : List ℕ) (j : Job) → SheetStands sheet → Stands j → Accepted (entries_of sheet) j
+judged sheet j s a = stands_accepted (entries_of sheet) j (entries_stand sheet s) a
+
+-- so it accepts what the call judges
 accepted : (sheet file ns : List ℕ) → Judges scaffold sheet file ns → Accepted (entries_of sheet) (job_of ns)
-accepted sheet file ns a = stands_accepted (entries_of sheet) (job_of ns) (entries_stand sheet a.sheet_stands) a.reads.stands
+accepted sheet file ns a = judged sheet (job_of ns) a.sheet_stands a.reads.stands
 
 module _ (s : List ℕ) (j : Job) (a : Accepted s j) where
-  verdict_judged : (i : ℕ) → Judging.verdict_at s j i ≡ get_or (verdicts j s) i 0
+  pub verdict_judged : (i : ℕ) → Judging.verdict_at s j i ≡ get_or (verdicts j s) i 0
   unfolding judgement
   verdict_judged i = ap (λ r. verdict_in r i) (accepted_answer s j a)
 
@@ -129,7 +133,7 @@ module _ (s : List ℕ) (j : Job) (a : Accepted s j) where
   unfolding judgement
   heights_judged = ap heights_in (accepted_answer s j a)
 
-  stability_judged : Judging.stability_of s j ≡ stability j s
+  pub stability_judged : Judging.stability_of s j ≡ stability j s
   unfolding heights
   stability_judged = rw heights_judged (told (stability j s))
     where
