@@ -1,5 +1,5 @@
 /* The C interface of Rembilung: a scaffold job or a formwork support judged by section 5 of JGJ 130-2001, all scaffold
- * jobs between two of them judged at once, job files and season's books written and read.
+ * jobs between two of them judged at once, job files and season's books written and read, load cells' records worked out.
  *
  * What it does. A scaffold job is 25 whole numbers that describe one facade scaffold of tube and couplers; a formwork
  * support is 13, of which the first is 3. A job file is a job of either kind packed into bytes: each number in groups of
@@ -34,6 +34,14 @@
  *     uint64_t told = rembilung_between(sheet, REMBILUNG_SHEET_BYTES, mild, harsh, answer);
  *     if (rembilung_refused(told)) ..
  *     answer[11 - 1] == REMBILUNG_UNDECIDED           check 11 passes at the mild end, fails at the harsh
+ *
+ * A load cell under a pad logs records of eight bytes, each a push, a pull or silence. rembilung_cells gives for each
+ * record the greatest push among the last w:
+ *
+ *     static uint8_t out[REMBILUNG_CELL_OUTPUT_MOST];                 32,000 bytes
+ *     uint64_t done = rembilung_cells(records, records_len, 10, out, sizeof out);
+ *     if (rembilung_refused(done)) ..
+ *     out[4 * k], out[4 * k + 1], ..                  the number of record k, from 0, low byte first
  *
  * Every input is met by an answer or a refusal: nothing has to be tested before a call.
  *
@@ -79,6 +87,12 @@ extern "C" {
 /* How many checks there are, and what rembilung_between answers: a number for each, then two heights. */
 #define REMBILUNG_CHECKS 12
 #define REMBILUNG_BETWEEN_NUMBERS 14
+/* A load cell's records: bytes in one, records in a run at most, records that a greatest push is taken over at most. */
+#define REMBILUNG_CELL_RECORD 8
+#define REMBILUNG_CELL_RECORDS_MOST 8000
+#define REMBILUNG_CELL_W_MOST 500
+/* No output is longer: with a buffer of this size refusal 8 never comes of load cells. */
+#define REMBILUNG_CELL_OUTPUT_MOST 32000
 /* "None" in an answer of numbers, which no height comes near. */
 #define REMBILUNG_NONE UINT32_C(4294967295)
 
@@ -154,6 +168,10 @@ enum rembilung_support_number {
  *              job; so a row that begins with 3
  *     12       two jobs of which the second is not the first or a harsher    the lowest field that is unlike or runs the
  *              one                                                           wrong way, from 1
+ *     13       w is 0 or above 500                                           w
+ *     14       a load cell's record whose kind, zero bytes or value is       the first such record, from 0
+ *              wrong
+ *     15       load cells' records that are not whole, or more than 8,000    their length in bytes
  *
  * Of the harsh job of rembilung_between the places of 3, 4 and 5 are 25 higher, from 26 to 50.
  * A place above 4,294,967,295 is given as 4,294,967,295. Where several refusals are due, each call says which goes first.
@@ -163,7 +181,7 @@ static inline int rembilung_refused(uint64_t result) {
     return result >> 32 != 0;
 }
 
-/* The refusal number, 1 to 12, or 0 where nothing was refused. */
+/* The refusal number, 1 to 15, or 0 where nothing was refused. */
 static inline uint32_t rembilung_refusal(uint64_t result) {
     return (uint32_t)(result >> 32);
 }
@@ -267,6 +285,24 @@ uint64_t rembilung_between(const uint8_t *sheet, size_t sheet_len,
                            const uint32_t mild[REMBILUNG_NUMBERS],
                            const uint32_t harsh[REMBILUNG_NUMBERS],
                            uint32_t answer[REMBILUNG_BETWEEN_NUMBERS]);
+
+/* The first byte of a load cell's record. Three zero bytes follow it, then newtons as an IEEE 754 single, low byte first. */
+enum rembilung_cell_kind {
+    REMBILUNG_CELL_PUSH = 1,
+    REMBILUNG_CELL_PULL = 2,
+    REMBILUNG_CELL_SILENT = 3 /* its newtons are four zero bytes */
+};
+
+/* For each record of a load cell the greatest push among the last w records, that record itself among them, fewer at the
+ * start: four bytes, low byte first. A push counts as its newtons, up to a whole newton; pulls and silence count as 0.
+ * Returns the output's length, 4 a record, or a refusal with the output as it was, the first of 13, 15, 14, 8.
+ *
+ * The newtons of a push or a pull are a number from 0 to 100,000; minus zero is zero. A value that is no number, or negative,
+ * or above, is refused 14; so is silence whose newtons are not four zero bytes. A run of no records is accepted, and nothing
+ * is written. The time does not depend on w. */
+uint64_t rembilung_cells(const uint8_t *records, size_t records_len,
+                         uint32_t w,
+                         uint8_t *out, size_t out_len);
 
 #ifdef __cplusplus
 }
