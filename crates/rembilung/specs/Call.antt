@@ -22,6 +22,7 @@ use Rattle.book.specs.Write.{book_written, book_left}
 use Rattle.report.specs.Report.{report}
 use Rattle.between.specs.Between as Between
 use Rattle.between.specs.declared.Between.{Between as Told}
+use Rattle.cells.specs.Cells.{cells_written, cells_left}
 use Rattle.rembilung.specs.Code.{written_code}
 
 -- the 251 entries of 502 bytes, each low byte first
@@ -136,3 +137,10 @@ between_code sheet mild harsh = written_code (fourteen (between_told sheet mild 
 
 unfoldable pub between_buffer : List ℕ → List ℕ → List ℕ → List ℕ → List ℕ
 between_buffer sheet mild harsh before = told_left (between_told sheet mild harsh) before
+
+-- the call on load cells returns the output's length alone, or the refusal and its place; the buffer afterwards
+unfoldable pub cells_code : List ℕ → ℕ → List ℕ → ℕ
+cells_code records w out = written_code (cells_written records w out)
+
+unfoldable pub cells_buffer : List ℕ → ℕ → List ℕ → List ℕ
+cells_buffer records w out = cells_left records w out

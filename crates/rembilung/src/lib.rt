@@ -1,4 +1,4 @@
-// The calls of the C interface: the whole call, job files of both kinds for a host that keys numbers in, season's books, and two ends. Crate rembilung_c opens them to C.
+// The calls of the C interface: the whole call, job files of both kinds for a host that keys numbers in, season's books, two ends, and load cells. Crate rembilung_c opens them to C.
 #![tactic(auto)]
 
 ghost use Rattle.std.specs.Prelude.{◌≡◌, eqb, length, Ok};
@@ -8,7 +8,7 @@ ghost use Rattle.between.specs.Between.{answer};
 ghost use Rattle.jobfile.specs.Kind.{scaffold, support};
 ghost use Rattle.jobfile.specs.Read.{job_in};
 ghost use Rattle.rembilung.specs.Code.{written_code};
-ghost use Rattle.rembilung.specs.Call.{entries_of, judgement_in, call_answer, call_code, call_buffer, count_in, left_in, write_code, write_buffer, read_code, read_buffer, write_book_code, write_book_buffer, read_book_code, read_book_buffer, between_told, fourteen, told_left, between_code, between_buffer};
+ghost use Rattle.rembilung.specs.Call.{entries_of, judgement_in, call_answer, call_code, call_buffer, count_in, left_in, write_code, write_buffer, read_code, read_buffer, write_book_code, write_book_buffer, read_book_code, read_book_buffer, between_told, fourteen, told_left, between_code, between_buffer, cells_code, cells_buffer};
 
 use basis::Refusal;
 use between::{Between, NUMBERS, judge_between};
@@ -171,4 +171,13 @@ pub fn rembilung_between(
     ensures buffer { answer.new ≡ between_buffer sheet.now mild.now harsh.now answer.old }
 {
     code_of(tell(sheet, mild, harsh, answer))
+}
+
+// For each record of a load cell the greatest push among the last w: the output's length, or a refusal (13, 15, 14, 8), with the output as it was.
+#[tactic(auto, unfolding(crate::specs::Call::cells_code, crate::specs::Call::cells_buffer))]
+pub fn rembilung_cells(records: &[u8], w: u32, out: &mut [u8]) -> u64
+    ensures returned { result ≡ cells_code records.now w out.old }
+    ensures buffer { out.new ≡ cells_buffer records.now w out.old }
+{
+    code_of(cells::write(records, w, out))
 }

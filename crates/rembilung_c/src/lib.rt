@@ -3,7 +3,7 @@
 
 ghost use Rattle.std.specs.Prelude.{◌≡◌};
 ghost use Rattle.jobfile.specs.Kind.{scaffold, support};
-ghost use Rattle.rembilung.specs.Call.{call_code, call_buffer, write_code, write_buffer, read_code, read_buffer, write_book_code, write_book_buffer, read_book_code, read_book_buffer, between_code, between_buffer};
+ghost use Rattle.rembilung.specs.Call.{call_code, call_buffer, write_code, write_buffer, read_code, read_buffer, write_book_code, write_book_buffer, read_book_code, read_book_buffer, between_code, between_buffer, cells_code, cells_buffer};
 
 // The job file of a scaffold's 25 numbers: its length, or a refusal (3, 4, 5, 8).
 #[unsafe(no_mangle)]
@@ -71,4 +71,13 @@ pub extern "C" fn rembilung_between(
     ensures buffer { answer.new ≡ between_buffer sheet.now mild.now harsh.now answer.old }
 {
     rembilung::rembilung_between(sheet, mild, harsh, answer)
+}
+
+// For each record of a load cell the greatest push among the last w: the output's length, or a refusal (13, 15, 14, 8), with the output as it was.
+#[unsafe(no_mangle)]
+pub extern "C" fn rembilung_cells(records: &[u8], w: u32, out: &mut [u8]) -> u64
+    ensures returned { result ≡ cells_code records.now w out.old }
+    ensures buffer { out.new ≡ cells_buffer records.now w out.old }
+{
+    rembilung::rembilung_cells(records, w, out)
 }
