@@ -1,4 +1,4 @@
-/* The calls that judge and the calls on a book in plain C, to measure the library against: same arguments, answers and bytes. */
+/* The calls that judge, on a book and on load cells in plain C, to measure the library against: same arguments, answers, bytes. */
 #ifndef PLAIN_H
 #define PLAIN_H
 
@@ -15,5 +15,8 @@ uint64_t plain_write_book(const uint32_t *rows, size_t numbers,
                           uint8_t *book, size_t book_len);
 uint64_t plain_read_book(const uint8_t *book, size_t book_len,
                          uint32_t *rows, size_t numbers);
+uint64_t plain_cells(const uint8_t *records, size_t records_len,
+                     uint32_t w,
+                     uint8_t *out, size_t out_len);
 
 #endif
