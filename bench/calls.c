@@ -9,14 +9,18 @@ Verdict plain_verdict_gcc, plain_verdict_clang;
 Between plain_between_gcc, plain_between_clang;
 WriteBook plain_write_book_gcc, plain_write_book_clang;
 ReadBook plain_read_book_gcc, plain_read_book_clang;
+Cells plain_cells_gcc, plain_cells_clang;
 
 const Version versions[] = {
-    {"library", rembilung_verdict, rembilung_between, rembilung_read_job, rembilung_write_book, rembilung_read_book},
+    {"library", rembilung_verdict, rembilung_between, rembilung_read_job, rembilung_write_book, rembilung_read_book,
+     rembilung_cells},
 #ifdef WITH_GCC
-    {"C gcc -O3", plain_verdict_gcc, plain_between_gcc, NULL, plain_write_book_gcc, plain_read_book_gcc},
+    {"C gcc -O3", plain_verdict_gcc, plain_between_gcc, NULL, plain_write_book_gcc, plain_read_book_gcc,
+     plain_cells_gcc},
 #endif
 #ifdef WITH_CLANG
-    {"C clang -O3", plain_verdict_clang, plain_between_clang, NULL, plain_write_book_clang, plain_read_book_clang},
+    {"C clang -O3", plain_verdict_clang, plain_between_clang, NULL, plain_write_book_clang, plain_read_book_clang,
+     plain_cells_clang},
 #endif
 };
 const int version_count = sizeof versions / sizeof versions[0];
@@ -25,6 +29,7 @@ enum { BEYOND = 64 };
 
 /* Where the calls write; all of it is compared. */
 typedef struct {
+    uint8_t greatest[REMBILUNG_CELL_OUTPUT_MOST + BEYOND];
     uint8_t report[REMBILUNG_REPORT_MOST + BEYOND], book[REMBILUNG_BOOK_MOST + BEYOND];
     uint32_t rows[REMBILUNG_NUMBERS * REMBILUNG_BOOK_ROWS_MOST + BEYOND], answer[REMBILUNG_BETWEEN_NUMBERS + BEYOND];
 } Written;
@@ -56,6 +61,15 @@ static uint64_t pass_pairs(const Version *version, const List *list) {
     for (int k = 0; k < list->count; k++) {
         const PairInput *in = &list->pair[k];
         sum += version->between(in->sheet, in->sheet_len, in->mild, in->harsh, to.answer);
+    }
+    return sum;
+}
+
+static uint64_t pass_cells(const Version *version, const List *list) {
+    uint64_t sum = 0;
+    for (int k = 0; k < list->count; k++) {
+        const CellInput *in = &list->cell[k];
+        sum += version->cells(in->records, in->records_len, in->w, to.greatest, in->out_len);
     }
     return sum;
 }
@@ -99,14 +113,22 @@ const BookClass *book_class_of(int which) {
     return which >= BOOK_LISTS && which < PAIR_LISTS ? &book_classes[which - BOOK_LISTS] : NULL;
 }
 
+const CellClass *cell_class_of(int which) {
+    return which >= CELL_LISTS && which < PART_LISTS ? &cell_classes[which - CELL_LISTS] : NULL;
+}
+
 static List list_of_books(int which) {
     const BookClass *class = book_class_of(which);
     return (List){class->name, class->writes ? "write_book" : "read_book", version_count, class->count, class->writes, {0},
-                  books[which - BOOK_LISTS], NULL, pass_books};
+                  books[which - BOOK_LISTS], NULL, NULL, pass_books};
 }
 
 static List list_of_pairs(int class) {
-    return (List){pair_classes[class].name, "between", version_count, PAIRS, 0, {0}, NULL, pairs[class], pass_pairs};
+    return (List){pair_classes[class].name, "between", version_count, PAIRS, 0, {0}, NULL, pairs[class], NULL, pass_pairs};
+}
+
+static List list_of_cells(int class) {
+    return (List){cell_classes[class].name, "cells", version_count, CELL_RUNS, 0, {0}, NULL, NULL, cells[class], pass_cells};
 }
 
 /* Of the library alone: its call on two jobs is held to its calls on one. */
@@ -120,18 +142,20 @@ static List list_of_part(int part) {
         [TWO_READINGS] = {"both files read", "read_job", pass_two_readings},
         [SHEET_ALONE] = {"the sheet before a file of no bytes", "verdict", pass_sheet_alone},
     };
-    return (List){parts[part].name, parts[part].call, 1, PAIRS, 0, {0}, NULL, pairs[0], parts[part].pass};
+    return (List){parts[part].name, parts[part].call, 1, PAIRS, 0, {0}, NULL, pairs[0], NULL, parts[part].pass};
 }
 
 List list_of(int which) {
     if (which >= PART_LISTS)
         return list_of_part(which - PART_LISTS);
+    if (which >= CELL_LISTS)
+        return list_of_cells(which - CELL_LISTS);
     if (which >= PAIR_LISTS)
         return list_of_pairs(which - PAIR_LISTS);
     if (which >= BOOK_LISTS)
         return list_of_books(which);
     int mixed = which == MIXED;
-    List list = {mixed ? "mix" : classes[which].name, "verdict", version_count, mixed ? MIX : PER_CLASS, 0, {0}, NULL, NULL,
+    List list = {mixed ? "mix" : classes[which].name, "verdict", version_count, mixed ? MIX : PER_CLASS, 0, {0}, NULL, NULL, NULL,
                  pass_verdicts};
     for (int k = 0; k < list.count; k++)
         list.input[k] = mixed ? mix[k] : &inputs[which][k];
@@ -164,6 +188,8 @@ static uint64_t answer(const Version *version, const List *list, int k, Written 
         one.book = list->book + k;
     else if (list->pair != NULL)
         one.pair = list->pair + k;
+    else if (list->cell != NULL)
+        one.cell = list->cell + k;
     else
         one.input[0] = list->input[k];
     memset(&to, 0xA5, sizeof to);
@@ -206,6 +232,7 @@ void make_all(void) {
     make_inputs();
     make_books();
     make_pairs();
+    make_cells();
 }
 
 void make_and_compare(void) {

@@ -3,6 +3,7 @@
 #define CALLS_H
 
 #include "books.h"
+#include "cells.h"
 #include "pairs.h"
 
 enum { VERSIONS_MOST = 3 };
@@ -12,6 +13,7 @@ typedef uint64_t Between(const uint8_t *, size_t, const uint32_t *, const uint32
 typedef uint64_t ReadJob(const uint8_t *, size_t, uint32_t *);
 typedef uint64_t WriteBook(const uint32_t *, size_t, uint8_t *, size_t);
 typedef uint64_t ReadBook(const uint8_t *, size_t, uint32_t *, size_t);
+typedef uint64_t Cells(const uint8_t *, size_t, uint32_t, uint8_t *, size_t);
 
 /* The library first; then plain C by each compiler that there was, which does not read a job file by itself. */
 typedef struct {
@@ -21,18 +23,20 @@ typedef struct {
     ReadJob *read_job;
     WriteBook *write_book;
     ReadBook *read_book;
+    Cells *cells;
 } Version;
 
 extern const Version versions[];
 extern const int version_count;
 
-/* The lists: the classes of whole calls, the mix of them, the classes of books, those of pairs, and what is done with the accepted
- * pairs by the calls on one job, in this order. */
+/* The lists: the classes of whole calls, the mix of them, the classes of books, those of pairs, those of load cells, and what is
+ * done with the accepted pairs by the calls on one job, in this order. */
 enum { TWO_CALLS, INTO_NO_ROOM, TWO_READINGS, SHEET_ALONE, PARTS };
-enum { MIXED = CLASSES, BOOK_LISTS, PAIR_LISTS = BOOK_LISTS + BOOK_CLASSES, PART_LISTS = PAIR_LISTS + PAIR_CLASSES,
-       LISTS = PART_LISTS + PARTS };
+enum { MIXED = CLASSES, BOOK_LISTS, PAIR_LISTS = BOOK_LISTS + BOOK_CLASSES, CELL_LISTS = PAIR_LISTS + PAIR_CLASSES,
+       PART_LISTS = CELL_LISTS + CELL_CLASSES, LISTS = PART_LISTS + PARTS };
 
-/* A list has whole calls, or books to be written or read, or pairs of jobs, the word of its call, and how many versions have it. */
+/* A list has whole calls, or books to be written or read, or pairs of jobs, or runs of load cells, the word of its call, and how
+ * many versions have it. */
 typedef struct List List;
 struct List {
     const char *name, *call;
@@ -40,15 +44,18 @@ struct List {
     const Input *input[MIX];
     const BookInput *book;
     const PairInput *pair;
+    const CellInput *cell;
     uint64_t (*pass)(const Version *, const List *);
 };
 
 List list_of(int which);
-/* The share of the mix, 0 for all but whole calls; and whether library to C has an aim. */
+/* The share of the mix, 0 for all but whole calls; and whether library to C has an aim of its own. */
 int share_of(int which);
 int has_aim(int which);
 /* The class of books that a list has, or none. */
 const BookClass *book_class_of(int which);
+/* The class of load cells that a list has, or none. */
+const CellClass *cell_class_of(int which);
 /* The bytes of a list's books as they are written or read, on the mean. */
 double bytes_of(int which);
 /* Makes the inputs. */

@@ -152,9 +152,24 @@ static void show_pairs(int rounds) {
     show_names("ns");
     show_ratio_names();
     show_line(2 * version_count);
-    for (int k = PAIR_LISTS; k < PART_LISTS; k++) {
+    for (int k = PAIR_LISTS; k < CELL_LISTS; k++) {
         printf("| %s |", lists[k].name);
         show_ns(k, rounds);
+        show_ratios(k, rounds);
+    }
+}
+
+static void show_cells(int rounds) {
+    printf("| load cells | records |");
+    show_names("ns");
+    printf(" library, ns a record |");
+    show_ratio_names();
+    show_line(2 + 2 * version_count);
+    for (int k = CELL_LISTS; k < PART_LISTS; k++) {
+        int records = cell_class_of(k)->records;
+        printf("| %s | %d |", lists[k].name, records);
+        show_ns(k, rounds);
+        printf(" %.2f |", median_ns(k, 0, rounds) / records);
         show_ratios(k, rounds);
     }
 }
@@ -181,6 +196,25 @@ static void show_aim(int list) {
     for (int v = 1; v < version_count; v++)
         printf("- time, %s: library / %s = %.3f (aim: at most 1.00): %s\n", lists[list].name, versions[v].name,
                ratio_to[list][v], ratio_to[list][v] <= 1.0 ? "met" : "NOT MET");
+}
+
+/* Of the lists with an aim the one of the greatest ratio speaks for all. */
+static void show_cell_aim(int which) {
+    int most = CELL_LISTS;
+    for (int k = CELL_LISTS; k < CELL_LISTS + CELL_AIMS; k++)
+        most = ratio_to[k][which] > ratio_to[most][which] ? k : most;
+    printf("- time, load cells: library / %s = %.3f at most, %s (aim: at most 1.00): %s\n", versions[which].name,
+           ratio_to[most][which], lists[most].name, ratio_to[most][which] <= 1.0 ? "met" : "NOT MET");
+}
+
+/* The time may not grow with w: the longest stretch is held to one of 10 records, of the same runs. */
+static void show_stretches(int rounds) {
+    for (int order = 0; order < CELL_ORDERS; order++) {
+        int longest = CELL_LISTS + CELL_STRETCHES * order + CELL_STRETCHES - 1;
+        double ratio = median_ns(longest, 0, rounds) / median_ns(longest - 1, 0, rounds);
+        printf("- time, load cells: %s / %s = %.3f (aim: at most 1.30): %s\n", lists[longest].name, lists[longest - 1].name, ratio,
+               ratio <= 1.3 ? "met" : "NOT MET");
+    }
 }
 
 static int inputs_compared(void) {
@@ -214,10 +248,15 @@ int main(int words, char **word) {
     show_pairs(rounds);
     printf("\nWhat the library's calls on one job take of the same pairs.\n\n");
     show_parts(rounds);
+    printf("\nThe call on load cells.\n\n");
+    show_cells(rounds);
     printf("\n");
     for (int k = 0; k < LISTS; k++)
         if (has_aim(k))
             show_aim(k);
     show_judgements(rounds);
+    for (int v = 1; v < version_count; v++)
+        show_cell_aim(v);
+    show_stretches(rounds);
     return 0;
 }
