@@ -2,9 +2,11 @@
  *
  * A line of jobs is a sheet's number (bench/vary.h) and the 25 numbers, or for write_support the 13. For a call on books it is
  * the number of rows, and the 25 numbers of each. For the call on two jobs the one job is both ends: what the call takes of two
- * ends is what it takes of each, and a job is accepted as the harsh end of itself. With "step" each call's instructions are counted by the processor's step
- * trap and printed, the library's own and those of the memory functions. "single CALL inputs" sends every input of
- * bench/inputs.c, of bench/books.c or of bench/pairs.c instead, and prints its class, and its numbers and file where it is a job. */
+ * ends is what it takes of each, and a job is accepted as the harsh end of itself. For the call on load cells it is the number
+ * of records, w, and 25 records as numbers, which are sent over and over. With "step" each call's instructions are counted by
+ * the processor's step trap and printed, the library's own and those of the memory functions. "single CALL inputs" sends every
+ * input of bench/inputs.c, of bench/books.c, of bench/pairs.c or of bench/cells.c instead, and prints its class, and its numbers
+ * and file where it is a job. */
 #define _GNU_SOURCE
 #include <signal.h>
 #include <stdio.h>
@@ -13,6 +15,7 @@
 #include <ucontext.h>
 
 #include "books.h"
+#include "cells.h"
 #include "pairs.h"
 #include "vary.h"
 
@@ -20,9 +23,11 @@
 #error "instructions are counted by the x86-64 trap flag; measure another processor by its own means"
 #endif
 
-enum { VERDICT, WRITE, READ, WRITE_SUPPORT, WRITE_BOOK, READ_BOOK, BETWEEN, CALLS };
+enum { VERDICT, WRITE, READ, WRITE_SUPPORT, WRITE_BOOK, READ_BOOK, BETWEEN, CELLS, CALLS };
 /* A number that no field takes may have five bytes. */
 enum { ROWS_MOST = REMBILUNG_BOOK_ROWS_MOST, BOOK_ROOM = 5 * REMBILUNG_NUMBERS * ROWS_MOST + 2 };
+/* A run has so many records, over and over. */
+enum { CYCLE = 25 };
 
 /* The memory functions stand in a section of their own; the linker knows its ends. */
 extern const char __start_memory_functions[], __stop_memory_functions[];
@@ -62,7 +67,7 @@ static void send(int which, const uint64_t argument[6], int step) {
     const uintptr_t function[CALLS] = {(uintptr_t)rembilung_verdict,       (uintptr_t)rembilung_write_job,
                                        (uintptr_t)rembilung_read_job,      (uintptr_t)rembilung_write_support,
                                        (uintptr_t)rembilung_write_book,    (uintptr_t)rembilung_read_book,
-                                       (uintptr_t)rembilung_between};
+                                       (uintptr_t)rembilung_between,       (uintptr_t)rembilung_cells};
     own = lent = 0;
     entry = function[which];
     call_it((const void *)entry, argument, step ? 0x100 : 0);
@@ -95,9 +100,15 @@ static void send_pair(const uint8_t *sheet, const uint32_t *mild, const uint32_t
     send(BETWEEN, argument, step);
 }
 
+static void send_run(const CellInput *in, int step) {
+    static uint8_t out[REMBILUNG_CELL_OUTPUT_MOST];
+    const uint64_t argument[6] = {(uintptr_t)in->records, in->records_len, in->w, (uintptr_t)out, in->out_len};
+    send(CELLS, argument, step);
+}
+
 static void usage(void) {
     fprintf(stderr, "usage: single CALL [step] < jobs, or single CALL inputs; CALL is 0 verdict, 1 write_job, 2 read_job, "
-                    "3 write_support, 4 write_book, 5 read_book, 6 between\n");
+                    "3 write_support, 4 write_book, 5 read_book, 6 between, 7 cells\n");
     exit(2);
 }
 
@@ -134,6 +145,25 @@ static int next_book(BookInput *in) {
     for (int r = 1; r < count; r++)
         memcpy(rows + REMBILUNG_NUMBERS_OF(r), rows, REMBILUNG_NUMBERS * sizeof *rows);
     *in = (BookInput){rows, REMBILUNG_NUMBERS_OF(count), book, pack_book(rows, (size_t)count, book)};
+    return 1;
+}
+
+/* A record as a number: a push of half as many newtons, from 0 to 100,000, then a pull, then silence, and then no kind. */
+static void put_numbered(uint8_t *record, uint32_t number) {
+    enum { VALUES = 200001 };
+    uint32_t kind = number < 2 * VALUES ? REMBILUNG_CELL_PUSH + number / VALUES : number == 2 * VALUES ? REMBILUNG_CELL_SILENT : 0;
+    put_record(record, kind, kind == REMBILUNG_CELL_SILENT ? 0 : half_newtons(number % VALUES));
+}
+
+static int next_run(CellInput *in) {
+    static uint8_t records[CELL_RUN_BYTES];
+    uint32_t numbers[1 + CYCLE];
+    int count;
+    if (!next_line(1, REMBILUNG_CELL_RECORDS_MOST, &count, numbers, 1 + CYCLE))
+        return 0;
+    for (int k = 0; k < count; k++)
+        put_numbered(records + REMBILUNG_CELL_RECORD * k, numbers[1 + k % CYCLE]);
+    *in = (CellInput){records, (size_t)(REMBILUNG_CELL_RECORD * count), numbers[0], REMBILUNG_CELL_OUTPUT_MOST};
     return 1;
 }
 
@@ -181,6 +211,13 @@ static void send_pairs(void) {
     }
 }
 
+static void send_runs(void) {
+    for (int k = 0; k < CELL_CLASSES * CELL_RUNS; k++) {
+        send_run(&cells[k / CELL_RUNS][k % CELL_RUNS], 0);
+        printf("%s;run %d\n", cell_classes[k / CELL_RUNS].name, k % CELL_RUNS);
+    }
+}
+
 static void send_job_lines(int which, int step) {
     static Input in;
     while (next_job(&in, which == WRITE_SUPPORT ? REMBILUNG_SUPPORT_NUMBERS : REMBILUNG_NUMBERS))
@@ -196,15 +233,30 @@ static void send_book_lines(int which, int step) {
         send_book(which, &in, step);
 }
 
+static void send_run_lines(int step) {
+    CellInput in;
+    while (next_run(&in))
+        send_run(&in, step);
+}
+
 static int is_of_books(int which) {
     return which == WRITE_BOOK || which == READ_BOOK;
 }
 
 static void send_inputs(int which) {
-    if (which == BETWEEN)
+    if (which == CELLS)
+        send_runs();
+    else if (which == BETWEEN)
         send_pairs();
     else
         (is_of_books(which) ? send_books : send_jobs)(which);
+}
+
+static void send_lines(int which, int step) {
+    if (which == CELLS)
+        send_run_lines(step);
+    else
+        (is_of_books(which) ? send_book_lines : send_job_lines)(which, step);
 }
 
 int main(int words, char **word) {
@@ -217,9 +269,10 @@ int main(int words, char **word) {
     make_inputs();
     make_books();
     make_pairs();
+    make_cells();
     if (whole)
         send_inputs(which);
     else
-        (is_of_books(which) ? send_book_lines : send_job_lines)(which, step);
+        send_lines(which, step);
     return 0;
 }

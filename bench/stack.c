@@ -3,6 +3,7 @@
 #include <string.h>
 
 #include "books.h"
+#include "cells.h"
 #include "pairs.h"
 #include "vary.h"
 
@@ -10,8 +11,8 @@
 #error "the stack is switched by x86-64 instructions; measure another processor by its own means"
 #endif
 
-enum { ROOM = 16384, RANDOM = 20000, RANDOM_BOOKS = 2000 };
-enum { VERDICT, WRITE_JOB, READ_JOB, WRITE_SUPPORT, WRITE_BOOK, READ_BOOK, BETWEEN, CALLS };
+enum { ROOM = 16384, RANDOM = 20000, RANDOM_BOOKS = 2000, RANDOM_RUNS = 2000 };
+enum { VERDICT, WRITE_JOB, READ_JOB, WRITE_SUPPORT, WRITE_BOOK, READ_BOOK, BETWEEN, CELLS, CALLS };
 /* A number that no field takes is longer than any that a book has. */
 enum { ROWS_MOST = REMBILUNG_BOOK_ROWS_MOST, BOOK_ROOM = REMBILUNG_BOOK_MOST + 8 };
 
@@ -29,7 +30,7 @@ static Depth depths[CALLS] = {
     [VERDICT] = {"rembilung_verdict", 0, 0, ""},       [WRITE_JOB] = {"rembilung_write_job", 0, 0, ""},
     [READ_JOB] = {"rembilung_read_job", 0, 0, ""},     [WRITE_SUPPORT] = {"rembilung_write_support", 0, 0, ""},
     [WRITE_BOOK] = {"rembilung_write_book", 0, 0, ""}, [READ_BOOK] = {"rembilung_read_book", 0, 0, ""},
-    [BETWEEN] = {"rembilung_between", 0, 0, ""},
+    [BETWEEN] = {"rembilung_between", 0, 0, ""},       [CELLS] = {"rembilung_cells", 0, 0, ""},
 };
 
 /* Calls a function of up to six arguments on the painted stack; its return address is the first thing there. */
@@ -171,15 +172,53 @@ static void measure_pairs(void) {
         measure_random_pair();
 }
 
+static void measure_run(const CellInput *in, const char *where) {
+    static uint8_t out[REMBILUNG_CELL_OUTPUT_MOST];
+    const uint64_t arguments[6] = {(uintptr_t)in->records, in->records_len, in->w, (uintptr_t)out, in->out_len};
+    keep(CELLS, depth_of((const void *)(uintptr_t)rembilung_cells, arguments), where);
+}
+
+static void random_records(uint8_t *records, size_t count) {
+    for (size_t k = 0; k < count; k++) {
+        uint32_t kind = from_to(REMBILUNG_CELL_PUSH, REMBILUNG_CELL_SILENT);
+        put_record(records + REMBILUNG_CELL_RECORD * k, kind,
+                   kind == REMBILUNG_CELL_SILENT ? 0 : half_newtons(from_to(0, 200000)));
+    }
+}
+
+/* One of four has a record of no kind, one of eight is cut within a record, and one of four has too little room. */
+static void measure_random_run(void) {
+    static uint8_t records[CELL_RUN_BYTES];
+    uint32_t count = from_to(1, REMBILUNG_CELL_RECORDS_MOST);
+    CellInput in = {records, REMBILUNG_CELL_RECORD * count, from_to(0, REMBILUNG_CELL_W_MOST + 1), 4 * count};
+    random_records(records, count);
+    if (from_to(0, 3) == 0)
+        records[REMBILUNG_CELL_RECORD * from_to(0, count - 1)] = 0;
+    if (from_to(0, 7) == 0)
+        in.records_len -= from_to(1, REMBILUNG_CELL_RECORD - 1);
+    if (from_to(0, 3) == 0)
+        in.out_len = from_to(0, 4 * count - 1);
+    measure_run(&in, "random runs");
+}
+
+static void measure_cells(void) {
+    for (int k = 0; k < CELL_CLASSES * CELL_RUNS; k++)
+        measure_run(&cells[k / CELL_RUNS][k % CELL_RUNS], cell_classes[k / CELL_RUNS].name);
+    for (int k = 0; k < RANDOM_RUNS; k++)
+        measure_random_run();
+}
+
 int main(void) {
     make_inputs();
     make_books();
     make_pairs();
+    make_cells();
     measure_inputs();
     measure_random(any_job, "random and limit jobs");
     measure_random(any_support, "random and limit supports");
     measure_all_books();
     measure_pairs();
+    measure_cells();
     for (int c = 0; c < CALLS; c++)
         printf("%s;%zu;%s;%d\n", depths[c].call, depths[c].deepest, depths[c].where, depths[c].inputs);
     return 0;
