@@ -7,3 +7,4 @@ pub mod Shown
 pub mod Demands
 pub mod Books
 pub mod Between
+pub mod Cells

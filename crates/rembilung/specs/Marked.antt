@@ -1,4 +1,4 @@
--- Marked cases of the whole call, job J's report and support S's, and of the call on two ends; of two things that are to be refused the one that comes first.
+-- Marked cases of the whole call, job J's report and support S's, of the call on two ends, and of the call on load cells; of two things that are to be refused the one that comes first.
 -- Assumes nothing.
 use Rattle.std.specs.Prelude.{ℕ, ◌/◌, ◌%◌, List, [], ◌∷◌, ◌++◌, set, replicate}
 use Rattle.basis.specs.Marked.{Row, row}
@@ -9,7 +9,8 @@ use Rattle.sheet.specs.SheetT.{sheet_T}
 use Rattle.groups.specs.Encode.{encode_all}
 use Rattle.jobfile.specs.Kind.{scaffold, support}
 use Rattle.jobfile.specs.Marked.{longest}
-use Rattle.rembilung.specs.Call.{call_code, between_code}
+use Rattle.cells.specs.Marked.{five}
+use Rattle.rembilung.specs.Call.{call_code, between_code, cells_code}
 use Rattle.rembilung.specs.Header.{report_most}
 
 -- the bytes of a sheet's entries, low byte first
@@ -26,8 +27,12 @@ returned sheet file room =
 unfoldable pub between_returned : List ℕ → List ℕ → List ℕ → List ℕ
 between_returned sheet mild harsh = between_code (sheet_bytes sheet) mild harsh / 4294967296 ∷ between_code (sheet_bytes sheet) mild harsh % 4294967296 ∷ []
 
+-- what the call on load cells returns, for an output of so many bytes
+unfoldable pub cells_returned : List ℕ → ℕ → ℕ → List ℕ
+cells_returned records w room = cells_code records w (replicate room 0) / 4294967296 ∷ cells_code records w (replicate room 0) % 4294967296 ∷ []
+
 unfoldable pub rows : List Row
-unfolding sheet_T numbers_J numbers_S longest returned between_returned encode_all
+unfolding sheet_T numbers_J numbers_S longest five returned between_returned cells_returned encode_all
 rows =
     -- J's report has 161 bytes
     row (returned sheet_T (encode_all numbers_J) (report_most scaffold)) (0 ∷ 161 ∷ [])
@@ -56,4 +61,10 @@ rows =
     ∷ row (between_returned sheet_T (set numbers_J 3 151) (set numbers_J 9 9)) (4 ∷ 35 ∷ [])
     ∷ row (between_returned sheet_T (set numbers_J 3 151) numbers_J) (12 ∷ 4 ∷ [])
     ∷ row (between_returned sheet_T numbers_J numbers_J) (0 ∷ 14 ∷ [])
+    -- of load cells: w before the length, the length before a record, whose kind is 9, a record before the output
+    ∷ row (cells_returned (9 ∷ five) 501 0) (13 ∷ 501 ∷ [])
+    ∷ row (cells_returned (9 ∷ five) 500 0) (15 ∷ 41 ∷ [])
+    ∷ row (cells_returned (five ++ (9 ∷ 0 ∷ 0 ∷ 0 ∷ 0 ∷ 0 ∷ 0 ∷ 0 ∷ [])) 500 0) (14 ∷ 5 ∷ [])
+    ∷ row (cells_returned five 500 19) (8 ∷ 20 ∷ [])
+    ∷ row (cells_returned five 500 20) (0 ∷ 20 ∷ [])
     ∷ []
