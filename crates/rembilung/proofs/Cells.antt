@@ -7,7 +7,7 @@ use mathlib.Core.Logic.{⊎_elim}
 use native.Mathlib.Omega.{arith}
 use lib.ListN.{length}
 use Rattle.basis.proofs.Rows.{exactly}
-use Rattle.cells.specs.Cells.{record_count, cells_refusal, cells_written, cells_left}
+use Rattle.cells.specs.Cells.{record_count, cells_written, cells_left}
 use Rattle.cells.specs.Rows.{Row, Runs}
 use Rattle.cells.proofs.Greatest.{told}
 use Rattle.rembilung.specs.Call.{cells_code, cells_buffer}
