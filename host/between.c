@@ -119,10 +119,8 @@ static int judge_between(const Sheet *sheet) {
     uint64_t told = rembilung_between(sheet->bytes, sheet->length, ends[0].numbers, ends[1].numbers, answer);
     if (rembilung_refused(told))
         return refuse_ends(told);
-    if (told != REMBILUNG_BETWEEN_NUMBERS || !are_outcomes(answer)) {
-        fputs("rembilung: the library's answer is not one that this program knows\n", stderr);
-        return UNUSABLE;
-    }
+    if (told != REMBILUNG_BETWEEN_NUMBERS || !are_outcomes(answer))
+        return unknown_answer();
     print_outcomes(stdout, answer);
     if (!flush_stdout())
         return UNUSABLE;

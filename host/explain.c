@@ -62,6 +62,27 @@ static void say_book(Text *to, uint32_t refusal, uint32_t place) {
         text_add(to, "row %" PRIu32 " of the book, counting from 0, cannot stand", place);
 }
 
+static void say_record_bytes(Text *to, uint32_t bytes) {
+    uint32_t whole = bytes / REMBILUNG_CELL_RECORD, after = bytes % REMBILUNG_CELL_RECORD;
+    text_add(to, "the load cell's records have %" PRIu32 " bytes, whole records of %d bytes: %" PRIu32, bytes,
+             REMBILUNG_CELL_RECORD, whole);
+    if (after > 0)
+        text_add(to, ", bytes after the last: %" PRIu32, after);
+    text_add(to, "; a run has whole records alone, at most %d", REMBILUNG_CELL_RECORDS_MOST);
+}
+
+static void say_cells(Text *to, uint32_t refusal, uint32_t place) {
+    uint64_t at = (uint64_t)place * REMBILUNG_CELL_RECORD;
+    if (refusal == 13)
+        text_add(to, "w, the number of records that a greatest push is taken over, is %" PRIu32 "; it may be 1 to %d", place,
+                 REMBILUNG_CELL_W_MOST);
+    else if (refusal == 14)
+        text_add(to, "record %" PRIu32 ", counting from 0 (bytes %" PRIu64 " to %" PRIu64 "), cannot stand", place, at,
+                 at + REMBILUNG_CELL_RECORD - 1);
+    else
+        say_record_bytes(to, place);
+}
+
 void explain(Text *to, uint64_t result, const Kind *kind, const uint32_t *numbers) {
     uint32_t refusal = rembilung_refusal(result), place = rembilung_place(result);
     if (refusal <= 2)
@@ -74,6 +95,8 @@ void explain(Text *to, uint64_t result, const Kind *kind, const uint32_t *number
         say_wall(to, place);
     else if (refusal <= 7)
         say_file(to, refusal, place, kind);
+    else if (refusal >= 13)
+        say_cells(to, refusal, place);
     else if (refusal >= 9)
         say_book(to, refusal, place);
     else

@@ -7,7 +7,7 @@
 #include <stdint.h>
 #include <stdio.h>
 
-/* More than any column sheet or job file, so that whatever is longer is neither. */
+/* More than any column sheet, job file or run of load cells' records, so that whatever is longer is none of them. */
 #define FILE_ROOM 1048576
 
 /* A file that is read piece by piece; the path '-' is standard input. */

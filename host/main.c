@@ -49,6 +49,7 @@ static const Command commands[] = {
     {"between", between},
     {"depot", depot},
     {"book", book},
+    {"cells", load_cells},
     {"pack-sheet", pack_sheet},
     {"show-sheet", show_sheet},
     {"show", show_job},

@@ -23,3 +23,8 @@ int refuse(uint64_t result, const Kind *kind, const uint32_t *numbers) {
     explain(&words, result, kind, numbers);
     return refuse_in_words(rembilung_refusal(result), rembilung_place(result), &words);
 }
+
+int unknown_answer(void) {
+    fputs("rembilung: the library's answer is not one that this program knows\n", stderr);
+    return UNUSABLE;
+}

@@ -16,4 +16,7 @@ int refuse_in_words(uint32_t refusal, uint32_t place, const Text *words);
 /* The same, in the words that explain finds. numbers may be null. */
 int refuse(uint64_t result, const Kind *kind, const uint32_t *numbers);
 
+/* Says that what the library answered is none of its answers; the answer is the exit status. */
+int unknown_answer(void);
+
 #endif
