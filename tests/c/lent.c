@@ -29,8 +29,24 @@ typedef struct {
 
 enum { PAGE = LENT_MOST };
 
-/* Most books are short, and a short room is marked and looked through sooner. */
-enum { SHEET, JOB_FILE, REPORT, NUMBERS, HARSH, ANSWER, SHORT_BOOK, LONG_BOOK, SHORT_ROWS, LONG_ROWS, PENS };
+/* Most books and runs are short, and a short room is marked and looked through sooner. */
+enum {
+    SHEET,
+    JOB_FILE,
+    REPORT,
+    NUMBERS,
+    HARSH,
+    ANSWER,
+    SHORT_BOOK,
+    LONG_BOOK,
+    SHORT_ROWS,
+    LONG_ROWS,
+    SHORT_RECORDS,
+    LONG_RECORDS,
+    SHORT_OUTPUT,
+    LONG_OUTPUT,
+    PENS
+};
 
 static Pen pens[PENS] = {
     [SHEET] = {"sheet", LENT_MOST, NULL, NULL, 0},
@@ -43,6 +59,10 @@ static Pen pens[PENS] = {
     [LONG_BOOK] = {"book", BOOK_LENT_MOST, NULL, NULL, 0},
     [SHORT_ROWS] = {"rows", LENT_MOST, NULL, NULL, 0},
     [LONG_ROWS] = {"rows", ROWS_LENT_MOST, NULL, NULL, 0},
+    [SHORT_RECORDS] = {"records", LENT_MOST, NULL, NULL, 0},
+    [LONG_RECORDS] = {"records", RECORDS_LENT_MOST, NULL, NULL, 0},
+    [SHORT_OUTPUT] = {"output", LENT_MOST, NULL, NULL, 0},
+    [LONG_OUTPUT] = {"output", OUTPUT_LENT_MOST, NULL, NULL, 0},
 };
 
 static void make_pen(Pen *pen) {
@@ -78,7 +98,7 @@ static void lend(Pen *pen, Bytes content, size_t length, int way) {
 
 /* The buffer begins with what is due, and all else of the room, beyond it and around it, is as it was. */
 static void holds(const Pen *pen, Bytes due) {
-    static uint8_t expected[ROWS_LENT_MOST];
+    static uint8_t expected[RECORDS_LENT_MOST];
     long start = pen->at - pen->room, k = 0;
     memset(expected, pen->mark, pen->size);
     if (due.length > 0)
@@ -184,6 +204,18 @@ void expect_between(Bytes sheet, const uint32_t *mild, const uint32_t *harsh, An
         holds(&pens[NUMBERS], mild_bytes);
         holds(&pens[HARSH], harsh_bytes);
         holds(&pens[ANSWER], due.written);
+    }
+}
+
+void expect_cells(Bytes records, uint32_t w, size_t room, Answer due) {
+    Pen *from = pen_for(SHORT_RECORDS, LONG_RECORDS, records.length);
+    Pen *to = pen_for(SHORT_OUTPUT, LONG_OUTPUT, room);
+    for (int way = 0; way < WAYS; way++) {
+        lend(from, records, records.length, way);
+        lend(to, (Bytes){NULL, 0}, room, way);
+        result_is(rembilung_cells(from->at, records.length, w, to->at, room), due);
+        holds(from, records);
+        holds(to, due.written);
     }
 }
 

@@ -28,9 +28,16 @@ typedef struct {
 
 extern const Kind scaffold, support;
 
-/* The greatest length that a buffer of these calls can have, in bytes, the same of a book and of rows, and how far lengths are
- * tried beyond the greatest that anything needs. */
-enum { LENT_MOST = 4096, BOOK_LENT_MOST = 3 * LENT_MOST, ROWS_LENT_MOST = 7 * LENT_MOST, BEYOND = 33 };
+/* The greatest length that a buffer of these calls can have, in bytes, the same of a book, of rows, of load cells' records and
+ * of their output, and how far lengths are tried beyond the greatest that anything needs. */
+enum {
+    LENT_MOST = 4096,
+    BOOK_LENT_MOST = 3 * LENT_MOST,
+    ROWS_LENT_MOST = 7 * LENT_MOST,
+    RECORDS_LENT_MOST = 16 * LENT_MOST,
+    OUTPUT_LENT_MOST = 10 * LENT_MOST,
+    BEYOND = 33
+};
 
 void make_pens(void);
 Answer refused(uint32_t refusal, uint32_t place);
@@ -48,6 +55,8 @@ void expect_write_book(Bytes rows, size_t numbers, size_t book_length, Answer du
 void expect_read_book(Bytes book, size_t numbers, Answer due);
 /* Of a mild and a harsh job; what is written are the numbers of the answer. */
 void expect_between(Bytes sheet, const uint32_t *mild, const uint32_t *harsh, Answer due);
+/* Of load cells' records; what is written are four bytes a record. */
+void expect_cells(Bytes records, uint32_t w, size_t room, Answer due);
 /* The whole call where only acceptance is known: the report that it wrote, whose length is returned, 0 on a refusal. */
 size_t expect_judged(Bytes sheet, Bytes file, uint8_t *report);
 

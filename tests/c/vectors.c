@@ -64,6 +64,16 @@ typedef struct {
     Answer due;
 } BetweenVector;
 
+/* Load cells' records with w, and room for the output. */
+typedef struct {
+    const char *from;
+    int line;
+    Bytes records;
+    uint32_t w;
+    size_t room;
+    Answer due;
+} CellsVector;
+
 /* A sheet to be judged with job J: the refusal due, or 0 where it stands. */
 typedef struct {
     int line;
@@ -203,8 +213,8 @@ static size_t all_file_verdicts(const FileVector *rows, size_t count) {
     return count;
 }
 
-/* A book up to this length is tried in rooms of every length, a longer one in that of its vector. */
-enum { SHORT_BOOK_MOST = 400 };
+/* A book, or an output, up to this length is tried in rooms of every length. */
+enum { SHORT_BOOK_MOST = 400, SHORT_OUTPUT_MOST = 400 };
 
 static size_t numbers_in(Bytes rows) {
     return rows.length / sizeof(uint32_t);
@@ -283,6 +293,26 @@ static size_t all_betweens(const BetweenVector *rows, size_t count) {
     return count;
 }
 
+static void cells_into(const CellsVector *row, size_t room, Answer due) {
+    case_begins("%s:%d: cells, output of %zu bytes", row->from, row->line, room);
+    expect_cells(row->records, row->w, room, due);
+}
+
+/* Rooms of every length, of a long output those near its own; where it was too short, with room enough nothing is known. */
+static void cells(const CellsVector *row) {
+    uint32_t refusal = row->due.refusal;
+    size_t length = refusal == 0 || refusal == 8 ? row->due.place : 0, end = refusal == 8 ? length : length + BEYOND + 1;
+    cells_into(row, row->room, row->due);
+    for (size_t room = length > SHORT_OUTPUT_MOST ? length - BEYOND : 0; room < end; room++)
+        cells_into(row, room, due_in(row->due, room));
+}
+
+static size_t all_cells(const CellsVector *rows, size_t count) {
+    for (size_t k = 0; k < count; k++)
+        cells(&rows[k]);
+    return count;
+}
+
 /* Counted, since no compiler says that a table which stands in an included file is left out. */
 static void all_requests(void) {
     size_t run = all_of(request_verdicts, COUNT(request_verdicts));
@@ -293,6 +323,7 @@ static void all_requests(void) {
     run += all_book_writes(request_write_books, COUNT(request_write_books));
     run += all_book_reads(request_read_books, COUNT(request_read_books));
     run += all_betweens(request_betweens, COUNT(request_betweens));
+    run += all_cells(request_cells, COUNT(request_cells));
     case_begins("%d cases of request-NN.txt", REQUEST_CASES);
     if (run != REQUEST_CASES)
         differs("only %zu are run", run);

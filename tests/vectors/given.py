@@ -25,13 +25,16 @@ BEFORE_5 = r"((?:[0-9]+ [012] [0-9]+\|){11})(?:height (none|[0-9]+ [0-9]+)\|)?(w
 SUPPORT_LINE_12 = "12 0 0|"
 HEXADECIMAL = r"-|([0-9a-f]{2})+"
 NUMBER_ROW = r"[0-9]{1,10}( [0-9]{1,10})*"
-# The bytes of a book, W*N being the word W N times, and rows, one followed by *N standing N times.
+# The bytes of a book or of records, W*N being the word W N times, and rows, one followed by *N standing N times.
 HEXADECIMAL_RUN = r"([0-9a-f]{2})+(\*[0-9]{1,4})?"
 BOOK = rf"-|{HEXADECIMAL_RUN}( {HEXADECIMAL_RUN})*"
 ROW_RUN = rf"{NUMBER_ROW}( \*[0-9]{{1,4}})?"
 ROWS = rf"-|{ROW_RUN}( / {ROW_RUN})*"
 # What holds of every job between two: an outcome for each of the twelve checks, and two heights.
 OUTCOMES = r"([123] ){12}[0-9]{1,10} [0-9]{1,10}"
+# What load cells' records come to: so many bytes, and the numbers, V*N being the number V N times.
+NUMBER_RUN = r"[0-9]{1,10}(\*[0-9]{1,4})?"
+PUSHES = rf"(0|[1-9][0-9]{{0,4}}) bytes: (-|{NUMBER_RUN}( {NUMBER_RUN})*)"
 # Sheet T of document 01.
 T = [max(1000 - 4 * k, 150) for k in range(ENTRIES)]
 # Support S, worked out by hand from clause 5.6, and its report under sheet T; request-05.txt gives the same.
@@ -69,6 +72,8 @@ BookWriting = collections.namedtuple("BookWriting", "file line numbers room answ
 BookReading = collections.namedtuple("BookReading", "file line data room answer")
 # A case of a mild and a harsh job: the bytes of its sheet, the numbers of both, and the answer as text.
 Between = collections.namedtuple("Between", "file line sheet mild harsh answer")
+# A case of load cells' records: their bytes, w, how long the output is, and the answer as text.
+Cells = collections.namedtuple("Cells", "file line data w room answer")
 
 
 class Fault(Exception):
@@ -93,6 +98,17 @@ def book_bytes(text):
     """The bytes of a book, given as words W or W*N."""
     words = [] if text == "-" else [word.split("*") for word in text.split(" ")]
     return b"".join(bytes.fromhex(word[0]) * int((word + ["1"])[1]) for word in words)
+
+
+def run_numbers(text):
+    """The numbers of words V or V*N."""
+    words = [] if text == "-" else [word.partition("*") for word in text.split(" ")]
+    return [int(number) for number, _, times in words for _ in range(int(times or 1))]
+
+
+def pushes(answer):
+    """The numbers of an answer 'B bytes: NUMBERS'."""
+    return run_numbers(answer.partition(" bytes: ")[2])
 
 
 def row_run(text):
@@ -243,8 +259,8 @@ def bytes_in(case, text):
 
 
 def room_in(case, text):
-    if not re.fullmatch(r"[0-9]{1,4}", text):
-        raise fault_in(case, f"a length of up to four digits expected, '{text}' found")
+    if not re.fullmatch(r"[0-9]{1,5}", text):
+        raise fault_in(case, f"a length of up to five digits expected, '{text}' found")
     return int(text)
 
 
@@ -374,10 +390,20 @@ def between_of(case):
     return Between(case.file, case.line, sheet_in(case, name), *ends, due)
 
 
+def cells_of(case):
+    """The case of a line cells;RECORDS;W;ROOM;ANSWER, where the answer names its bytes and shows the numbers."""
+    records, w, room, answer = parts_of(case, "RECORDS;W;ROOM;ANSWER")
+    due = answer_in(case, answer, PUSHES, "bytes and numbers")
+    length, shown, _ = due.partition(" bytes: ")
+    if shown and int(length) != 4 * len(pushes(due)):
+        raise fault_in(case, f"{length} bytes are said, and as many are not shown")
+    return Cells(case.file, case.line, book_in(case, records), numbers_in(case, w, 1)[0], room_in(case, room), due)
+
+
 # By the word of a call: what makes its case of a line.
 CALLS = {"verdict": verdict_of, "write_job": writing_of(NUMBERS), "write_support": writing_of(SUPPORT_NUMBERS),
          "read_job": reading_of, "verdict_file": file_verdict_of, "write_book": book_writing_of,
-         "read_book": book_reading_of, "between": between_of}
+         "read_book": book_reading_of, "between": between_of, "cells": cells_of}
 
 
 def cases_of_call(word):
