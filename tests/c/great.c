@@ -8,6 +8,7 @@
 #include "check.h"
 #include "paper.h"
 #include "parts.h"
+#include "records.h"
 
 static const size_t GIB4 = (size_t)1 << 32;
 static Book book_j;
@@ -141,6 +142,45 @@ static void greatest_counts(void) {
     many_rows_to_write(REMBILUNG_NUMBERS_OF(GIB4 + 1), 4294967295);
 }
 
+/* Of such lengths some are a few whole records, or none, where they are cut to 32 bits, or their count is. */
+static void many_bytes_of_records(size_t length, uint32_t place) {
+    uint8_t out[8], *records = zeros(length);
+    Run run = {.count = 0};
+    set_record(&run, 0, PUSH, NEWTONS_1);
+    memcpy(records, run.bytes, RECORD_BYTES);
+    case_begins("cells of %zu bytes", length);
+    result_is(rembilung_cells(records, length, 1, out, sizeof out), refused(15, place));
+    result_is(rembilung_cells(records, length, 0, out, sizeof out), refused(13, 0));
+    result_is(rembilung_cells(records, length, UINT32_MAX, out, sizeof out), refused(13, UINT32_MAX));
+    munmap(records, length);
+}
+
+static void long_cells_output(size_t room) {
+    static const uint32_t number = 1;
+    Run run = {.count = 0};
+    Answer due = pushes(&number, 1);
+    uint8_t *out = zeros(room + 8192);
+    set_record(&run, 0, PUSH, NEWTONS_1);
+    case_begins("a push into an output of %zu bytes", room);
+    result_is(rembilung_cells(run.bytes, RECORD_BYTES, 1, out, room), due);
+    begins_with(out, due.written);
+    munmap(out, room + 8192);
+}
+
+static void great_lengths_of_cells(void) {
+    many_bytes_of_records(GIB4 - 8, 4294967288);
+    many_bytes_of_records(GIB4 - 2, 4294967294);
+    many_bytes_of_records(GIB4 - 1, 4294967295);
+    many_bytes_of_records(GIB4, 4294967295);
+    many_bytes_of_records(GIB4 + RECORD_BYTES, 4294967295);
+    many_bytes_of_records(GIB4 + 15, 4294967295);
+    many_bytes_of_records(GIB4 + RECORD_BYTES * RECORDS_MOST, 4294967295);
+    many_bytes_of_records(RECORD_BYTES * (GIB4 + 1), 4294967295);
+    long_cells_output(GIB4);
+    long_cells_output(GIB4 + 3);
+    long_cells_output(4 * GIB4 + 3);
+}
+
 void test_great_lengths(int within_128_gib) {
     sheet_of_length(GIB4 - 2, 4294967294);
     sheet_of_length(GIB4 - 1, 4294967295);
@@ -149,6 +189,7 @@ void test_great_lengths(int within_128_gib) {
     great_lengths_of(judged_j());
     great_lengths_of(judged_support());
     great_lengths_of_books();
+    great_lengths_of_cells();
     if (!within_128_gib)
         greatest_counts();
 }

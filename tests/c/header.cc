@@ -1,5 +1,5 @@
 // Calls every function of the header from C++, the header included first and twice; exit status 0 where job J is judged, and a
-// support goes to a file and back, J to a book and back, and J stands at both ends.
+// support goes to a file and back, J to a book and back, J stands at both ends, and a load cell's record is worked out.
 #include "rembilung.h"
 #include "rembilung.h"
 
@@ -33,6 +33,14 @@ static bool ends_are_told(const uint8_t sheet[REMBILUNG_SHEET_BYTES]) {
            answer[0] == REMBILUNG_PASSES_THROUGHOUT && answer[REMBILUNG_BETWEEN_HARSH_HEIGHT] != REMBILUNG_NONE;
 }
 
+/* A push of 2.5 N counts as 3. */
+static bool cells_are_worked_out() {
+    static const uint8_t record[REMBILUNG_CELL_RECORD] = {REMBILUNG_CELL_PUSH, 0, 0, 0, 0, 0, 0x20, 0x40};
+    static uint8_t out[REMBILUNG_CELL_OUTPUT_MOST];
+    uint64_t done = rembilung_cells(record, sizeof record, REMBILUNG_CELL_W_MOST, out, sizeof out);
+    return done == 4 && out[0] == 3 && out[1] == 0 && out[2] == 0 && out[3] == 0;
+}
+
 int main() {
     uint8_t sheet[REMBILUNG_SHEET_BYTES], file[REMBILUNG_FILE_MOST], report[REMBILUNG_REPORT_MOST];
     uint32_t numbers[REMBILUNG_NUMBERS];
@@ -44,7 +52,7 @@ int main() {
     uint64_t done = rembilung_verdict(sheet, sizeof sheet, file, (size_t)made, report, sizeof report);
     bool judged = rembilung_refusal(done) == 0 && rembilung_place(done) == done;
     return numbers[REMBILUNG_PAD_AREA] == 2000 && judged && support_goes_round() && book_goes_round() &&
-                   ends_are_told(sheet)
+                   ends_are_told(sheet) && cells_are_worked_out()
                ? 0
                : 1;
 }

@@ -6,6 +6,7 @@
 #include "ends.h"
 #include "paper.h"
 #include "parts.h"
+#include "records.h"
 
 static uint8_t *aligned(uint8_t *room) {
     return room + (16 - (uintptr_t)room % 16) % 16;
@@ -52,6 +53,25 @@ static void ends_at_address(size_t shift) {
         differs("the answer is not J's");
 }
 
+/* Records and output at distances of their own. */
+static void cells_at_address(size_t shift) {
+    static const uint32_t numbers[] = {3, 3, 8};
+    static uint8_t room[2][64];
+    static Run run;
+    size_t other = (5 * shift + 3) % 16;
+    uint8_t *records = aligned(room[0]) + shift, *out = aligned(room[1]) + other;
+    Answer due = pushes(numbers, 3);
+    set_record(&run, 0, PUSH, bits_of(3));
+    set_record(&run, 1, PULL, bits_of(9));
+    set_record(&run, 2, PUSH, bits_of(8));
+    memcpy(records, run.bytes, run_bytes(&run).length);
+    memset(room[1], 0, sizeof room[1]);
+    case_begins("three records %zu bytes after a multiple of 16, their output %zu", shift, other);
+    result_is(rembilung_cells(records, run_bytes(&run).length, 2, out, due.place), due);
+    if (memcmp(out, due.written.at, due.written.length) != 0)
+        differs("the output is not that of the records");
+}
+
 static void test_judged(Judged job) {
     Sheet t = sheet_t();
     File file = file_of(job.kind, job.numbers);
@@ -77,6 +97,8 @@ int main(int count, char **words) {
     test_addresses(judged_support());
     for (size_t shift = 0; shift < 16; shift++)
         ends_at_address(shift);
+    for (size_t shift = 0; shift < 16; shift++)
+        cells_at_address(shift);
     test_sheets();
     test_files();
     test_ranges();
@@ -85,6 +107,8 @@ int main(int count, char **words) {
     test_books();
     test_book_order();
     test_between();
+    test_cells();
+    test_cell_values();
     test_great_lengths(within_128_gib);
     test_vectors();
     return cases_end();

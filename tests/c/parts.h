@@ -11,6 +11,8 @@ void test_supports(void);
 void test_books(void);
 void test_book_order(void);
 void test_between(void);
+void test_cells(void);
+void test_cell_values(void);
 /* Where there is no more address space, as under valgrind, counts of 4,294,967,295 rows and more are left out. */
 void test_great_lengths(int within_128_gib);
 
