@@ -6,8 +6,8 @@
 
 #include "fuzz.h"
 
-/* More than a book, or its rows, or the bytes that a run brings, and the marked bytes beside them. */
-#define GUARDED_BYTES 32768
+/* More than a book, its rows, load cells' records, or the bytes that the fuzzer brings, and the marked bytes beside them. */
+#define GUARDED_BYTES 65536
 #define GUARD_BYTES 4096
 #define MARKED_BYTES 512
 #define MARK 0xA5
