@@ -1,7 +1,8 @@
-//! The twin's own answers to the whole call and to the call on two ends, for inputs that are given line by line.
+//! The twin's own answers to the whole call, on two ends and on load cells, for inputs that are given line by line.
 
-use crate::call::{counted, list, unhex};
-use crate::paper::calls::{between, verdict};
+use crate::call::{counted, length, list, number, unhex};
+use crate::paper::calls::{between, cells, verdict};
+use crate::records::from_words;
 use std::io::{BufRead, BufWriter, Write};
 
 /// More bytes than any report has.
@@ -23,11 +24,12 @@ pub fn answer_lines(lines: impl BufRead, out: impl Write) -> Result<(), String> 
     out.flush().map_err(said)
 }
 
-/// The answer to "SHEET FILE", or to "between SHEET MILD HARSH"; no sheet in hexadecimal begins with that word.
+/// The answer to "SHEET FILE", "between SHEET MILD HARSH" or "cells RECORDS W ROOM"; neither word begins a sheet.
 fn answer(line: &str) -> Result<String, String> {
-    match line.strip_prefix("between ") {
-        Some(ends) => on_ends(ends),
-        None => on_file(line),
+    match line.split_once(' ') {
+        Some(("between", ends)) => on_ends(ends),
+        Some(("cells", given)) => on_records(given),
+        _ => on_file(line),
     }
 }
 
@@ -53,6 +55,26 @@ fn on_ends(ends: &str) -> Result<String, String> {
     let mut told = [0; 14];
     let returned = between(&sheet, &mild, &harsh, &mut told);
     Ok(refused(returned).unwrap_or_else(|| told.map(|number| number.to_string()).join(" ")))
+}
+
+/// The number of bytes and the numbers that they are, spaces between them, or the refusal and its place.
+fn on_records(given: &str) -> Result<String, String> {
+    let parts: Vec<&str> = given.split(' ').collect();
+    let [records, w, room] = parts[..] else {
+        return Err("records, w and a room in bytes are given, with one space between each two".to_string());
+    };
+    let records = match records {
+        "-" => Vec::new(),
+        "" => return Err("the records are missing; '-' stands for none".to_string()),
+        _ => from_words(records).map_err(|message| format!("the records: {message}; '-' stands for none"))?,
+    };
+    let w = number(w).map_err(|message| format!("w: {message}"))?;
+    let mut out = vec![0; length(room).map_err(|message| format!("the room: {message}"))?];
+    let returned = cells(&records, w, &mut out);
+    Ok(refused(returned).unwrap_or_else(|| {
+        let numbers = out[..returned as usize].as_chunks().0.iter().map(|&number| u32::from_le_bytes(number));
+        numbers.fold(returned.to_string(), |told, number| format!("{told} {number}"))
+    }))
 }
 
 fn refused(returned: u64) -> Option<String> {

@@ -1,5 +1,6 @@
 //! One call to be compared: its inputs, and the words by which it can be run again.
 
+use crate::records::{from_words, to_words};
 use std::fmt;
 
 /// The inputs of a call; `fill` seeds the bytes that lie in and around what is lent.
@@ -44,13 +45,20 @@ pub enum Call {
         harsh: [u32; 25],
         fill: u64,
     },
+    /// A load cell's records, w, and the length of the output.
+    Cells {
+        records: Vec<u8>,
+        w: u32,
+        out: usize,
+        fill: u64,
+    },
 }
 
 /// What a call begins with.
-const KINDS: &str = "verdict, write, write-support, read, write-book, read-book or between";
+const KINDS: &str = "verdict, write, write-support, read, write-book, read-book, between or cells";
 
 /// No buffer longer than this is lent when words are read back.
-const LONGEST: usize = 1 << 20;
+pub const LONGEST: usize = 1 << 20;
 
 impl fmt::Display for Call {
     fn fmt(&self, to: &mut fmt::Formatter) -> fmt::Result {
@@ -75,6 +83,9 @@ impl fmt::Display for Call {
                 let (mild, harsh) = (commas(mild), commas(harsh));
                 write!(to, "between sheet={} mild={mild} harsh={harsh} fill={fill}", hex(sheet))
             }
+            Call::Cells { records, w, out, fill } => {
+                write!(to, "cells records={} w={w} out={out} fill={fill}", to_words(records))
+            }
         }
     }
 }
@@ -83,7 +94,7 @@ fn commas(numbers: &[u32]) -> String {
     numbers.iter().map(u32::to_string).collect::<Vec<String>>().join(",")
 }
 
-fn hex(bytes: &[u8]) -> String {
+pub fn hex(bytes: &[u8]) -> String {
     const DIGITS: &[u8; 16] = b"0123456789abcdef";
     let digit = |value: u8| char::from(DIGITS[usize::from(value)]);
     bytes.iter().flat_map(|byte| [digit(byte >> 4), digit(byte & 15)]).collect()
@@ -119,6 +130,10 @@ pub fn parse(words: &[&str]) -> Result<Call, String> {
             let [mild, harsh] = [counted(list(mild)?)?, counted(list(harsh)?)?];
             Ok(Call::Between { sheet: unhex(sheet)?, mild, harsh, fill: number(fill)? })
         }
+        "cells" => {
+            let [records, w, out, fill] = values(rest, ["records", "w", "out", "fill"])?;
+            Ok(Call::Cells { records: from_words(records)?, w: number(w)?, out: length(out)?, fill: number(fill)? })
+        }
         other => Err(format!("'{other}' is no call: {KINDS}")),
     }
 }
@@ -150,11 +165,11 @@ pub fn unhex(text: &str) -> Result<Vec<u8>, String> {
     }
 }
 
-fn number<T: std::str::FromStr>(text: &str) -> Result<T, String> {
+pub fn number<T: std::str::FromStr>(text: &str) -> Result<T, String> {
     text.parse().map_err(|_| format!("'{text}' is not a whole number in reach"))
 }
 
-fn length(text: &str) -> Result<usize, String> {
+pub fn length(text: &str) -> Result<usize, String> {
     match number(text)? {
         length if length <= LONGEST => Ok(length),
         _ => Err(format!("a lent buffer has at most {LONGEST} bytes or numbers here")),

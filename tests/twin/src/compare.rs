@@ -26,6 +26,7 @@ unsafe extern "C" {
         harsh: *const u32,
         answer: *mut u32,
     ) -> u64;
+    fn rembilung_cells(records: *const u8, records_len: usize, w: u32, out: *mut u8, out_len: usize) -> u64;
 }
 
 /// Bytes on each side of what is lent; they must stay as they were.
@@ -77,7 +78,7 @@ pub fn library(call: &Call) -> Answer {
     answer(call, &LIBRARY)
 }
 
-/// The seven calls of one side.
+/// The eight calls of one side.
 pub struct Side {
     pub verdict: fn(&[u8], &[u8], &mut [u8]) -> u64,
     pub write_job: fn(&[u32; 25], &mut [u8]) -> u64,
@@ -86,6 +87,7 @@ pub struct Side {
     pub write_book: fn(&[u32], &mut [u8]) -> u64,
     pub read_book: fn(&[u8], &mut [u32]) -> u64,
     pub between: fn(&[u8], &[u32; 25], &[u32; 25], &mut [u32; 14]) -> u64,
+    pub cells: fn(&[u8], u32, &mut [u8]) -> u64,
 }
 
 pub const TWIN: Side = Side {
@@ -96,6 +98,7 @@ pub const TWIN: Side = Side {
     write_book: calls::write_book,
     read_book: calls::read_book,
     between: calls::between,
+    cells: calls::cells,
 };
 
 // A slice's pointer is never null and its length is that of one lent buffer, as the header asks.
@@ -108,6 +111,9 @@ pub const LIBRARY: Side = Side {
     read_book: |book, lent| unsafe { rembilung_read_book(book.as_ptr(), book.len(), lent.as_mut_ptr(), lent.len()) },
     between: |sheet, mild, harsh, lent| unsafe {
         rembilung_between(sheet.as_ptr(), sheet.len(), mild.as_ptr(), harsh.as_ptr(), lent.as_mut_ptr())
+    },
+    cells: |records, w, lent| unsafe {
+        rembilung_cells(records.as_ptr(), records.len(), w, lent.as_mut_ptr(), lent.len())
     },
 };
 
@@ -142,6 +148,7 @@ fn answer(call: &Call, side: &Side) -> Answer {
         }
         Call::ReadBook { book, numbers, fill } => read(side.read_book, book, *numbers, *fill),
         Call::Between { sheet, mild, harsh, fill } => between(side, sheet, [mild, harsh], *fill),
+        Call::Cells { records, w, out, fill } => cells(side, records, *w, *out, *fill),
     }
 }
 
@@ -179,6 +186,15 @@ fn between(side: &Side, sheet: &[u8], jobs: [&[u32; 25]; 2], fill: u64) -> Answe
     let returned = (side.between)(inside(&sheet), mild, harsh, lent);
     let (sheet, [mild, harsh]) = black_box((sheet, jobs));
     Answer { returned, written: to_bytes(&numbers), read: [sheet, to_bytes(&mild), to_bytes(&harsh)].concat() }
+}
+
+/// The answer of the call on a load cell's records.
+fn cells(side: &Side, records: &[u8], w: u32, out: usize, fill: u64) -> Answer {
+    let mut random = Random::new(fill, 0);
+    let mut written = random.bytes(out + 2 * GUARD);
+    let records = guarded(records, &mut random);
+    let returned = (side.cells)(inside(&records), w, &mut written[GUARD..GUARD + out]);
+    Answer { returned, written, read: black_box(records) }
 }
 
 /// Pseudo-random numbers: as many as are lent, and the guards.

@@ -31,6 +31,8 @@ pub enum Expect {
     Told(usize, u32),
     /// The stability heights of two ends.
     Ends([u32; 2]),
+    /// The number of a load cell's record, from 0.
+    Greatest(usize, u32),
 }
 
 impl Expect {
@@ -48,6 +50,7 @@ impl Expect {
             Expect::Column(z) => report.is_some_and(|report| report.column == z),
             Expect::Told(check, told) => answer.refusal() == 0 && answer.numbers()[check - 1] == told,
             Expect::Ends(heights) => answer.refusal() == 0 && answer.numbers()[12..] == heights,
+            Expect::Greatest(record, number) => answer.refusal() == 0 && answer.numbers().get(record) == Some(&number),
         }
     }
 }

@@ -16,6 +16,7 @@ mod options;
 mod paper;
 mod random;
 mod reading;
+mod records;
 mod round_trip;
 mod run;
 mod throughout;

@@ -8,6 +8,8 @@ mod compare;
 mod paper;
 #[allow(dead_code)]
 mod random;
+#[allow(dead_code)]
+mod records;
 
 use std::io::BufRead;
 use std::process::ExitCode;

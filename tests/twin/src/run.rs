@@ -4,6 +4,7 @@ use crate::call::Call;
 use crate::compare::{Answer, both};
 use crate::coverage::Table;
 use crate::demand3::{heights_fault, job, pair_fault};
+use crate::inputs::cells_damage;
 use crate::inputs::heights::{pair_cell, report_cell};
 use crate::inputs::required::refusal_cell;
 use crate::inputs::{Lists, Planned, Relation, Turn, block, block_length};
@@ -194,7 +195,7 @@ fn count(planned: &Planned, library: &Answer, table: &mut Table) -> Option<Repor
 }
 
 /// Refusals are counted by these kinds: verdict, write and read of jobs 0 to 2, of supports 3 to 5; books 6 and 7;
-/// two ends 8.
+/// two ends 8; load cells 11.
 fn kind(call: &Call) -> u32 {
     let is_support = |file: &[u8]| file.first() == Some(&3);
     match call {
@@ -205,6 +206,7 @@ fn kind(call: &Call) -> u32 {
         Call::WriteBook { .. } => 6,
         Call::ReadBook { .. } => 7,
         Call::Between { .. } => 8,
+        Call::Cells { .. } => cells_damage::KIND,
     }
 }
 
@@ -216,6 +218,9 @@ pub fn difference(call: &Call, library: &Answer, twin: &Answer) -> String {
     }
     if library.read != twin.read {
         text += "\n  bytes lent for reading differ";
+    }
+    if let Some(at) = (0..twin.lent().len()).find(|&at| library.lent()[at] != twin.lent()[at]) {
+        text += &format!("\n  the lent buffers differ first at byte {at}");
     }
     text
 }

@@ -9,6 +9,12 @@ pub mod book_damage;
 pub mod book_kinds;
 pub mod book_rows;
 pub mod books;
+pub mod cells;
+pub mod cells_damage;
+pub mod cells_faults;
+pub mod cells_required;
+pub mod cells_runs;
+pub mod cells_values;
 pub mod columns;
 pub mod damage;
 pub mod ends;
@@ -99,7 +105,7 @@ struct Kind {
     calls: usize,
 }
 
-const KINDS: [Kind; 83] = [
+const KINDS: [Kind; 101] = [
     Kind { make: kinds::uniform, turns: 140, calls: 1 },
     Kind { make: damage::wild, turns: 24, calls: 1 },
     Kind { make: damage::end, turns: 90, calls: 1 },
@@ -183,6 +189,24 @@ const KINDS: [Kind; 83] = [
     Kind { make: between_damage::three, turns: 1, calls: 1 },
     Kind { make: between_damage::faults, turns: 8, calls: 1 },
     Kind { make: between_damage::wild, turns: 4, calls: 1 },
+    Kind { make: cells_runs::uniform, turns: 6, calls: 1 },
+    Kind { make: cells_runs::inside, turns: 2, calls: 1 },
+    Kind { make: cells_runs::outside, turns: 1, calls: 1 },
+    Kind { make: cells_runs::short, turns: 4, calls: 1 },
+    Kind { make: cells_runs::shape, turns: 5, calls: 1 },
+    Kind { make: cells_runs::long, turns: 1, calls: 1 },
+    Kind { make: cells_values::value, turns: 9, calls: 1 },
+    Kind { make: cells_values::whole_number, turns: 3, calls: 1 },
+    Kind { make: cells_values::exponent, turns: 5, calls: 1 },
+    Kind { make: cells_values::pattern, turns: 2, calls: 1 },
+    Kind { make: cells_faults::kind, turns: 5, calls: 1 },
+    Kind { make: cells_faults::zero_byte, turns: 2, calls: 1 },
+    Kind { make: cells_faults::silence, turns: 1, calls: 1 },
+    Kind { make: cells_faults::two_wrong, turns: 1, calls: 1 },
+    Kind { make: cells_faults::far_down, turns: 1, calls: 1 },
+    Kind { make: cells_damage::length, turns: 1, calls: 1 },
+    Kind { make: cells_damage::room, turns: 2, calls: 1 },
+    Kind { make: cells_damage::faults, turns: 2, calls: 1 },
 ];
 
 /// The number of calls in a block.

@@ -1,7 +1,8 @@
-//! The seven calls as the C host sees them: one 64-bit number back, lent buffers written only on success.
+//! The eight calls as the C host sees them: one 64-bit number back, lent buffers written only on success.
 
 use super::between;
 use super::book;
+use super::cells;
 use super::file::{self, Content};
 use super::job::{self, Fields};
 use super::refusal::{Refusal, one_number, refuse};
@@ -69,4 +70,9 @@ pub fn between(sheet: &[u8], mild: &[u32; 25], harsh: &[u32; 25], lent: &mut [u3
         *lent = answer;
         14
     }))
+}
+
+/// Load cells' records into the greatest push among the last w of them: 13, 15, 14, 8.
+pub fn cells(records: &[u8], w: u32, lent: &mut [u8]) -> u64 {
+    one_number(cells::write(records, w, lent))
 }

@@ -1,8 +1,9 @@
-//! Document 01 with requests 1/14 to 6/14, in its own order and in exact fractions: what the library is compared with.
+//! Document 01 with requests 1/14 to 7/14, in its own order and in exact fractions: what the library is compared with.
 
 pub mod between;
 pub mod book;
 pub mod calls;
+pub mod cells;
 pub mod checks;
 pub mod constants;
 pub mod figures;
