@@ -10,6 +10,7 @@ mod inputs;
 mod marked;
 mod marked_between;
 mod marked_books;
+mod marked_cells;
 mod marked_heights;
 mod marked_supports;
 mod options;

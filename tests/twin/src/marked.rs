@@ -11,7 +11,7 @@ use crate::paper::file::groups;
 use crate::paper::fraction::d;
 use crate::paper::job::{Fields, Job};
 use crate::paper::sheet::Sheet;
-use crate::{marked_between, marked_books, marked_heights, marked_supports};
+use crate::{marked_between, marked_books, marked_cells, marked_heights, marked_supports};
 use std::collections::BTreeMap;
 
 /// Job J.
@@ -26,7 +26,7 @@ const REPORT_OF_J: &str = "1 1 477521\n2 1 1584\n3 1 571785\n4 1 2777\n5 1 4160\
 pub fn failing() -> (Vec<String>, usize) {
     let scaffolds = [judged(), columns(), lines(), walls_and_sheets(), files(), long_sheet(), searches()].concat();
     let others = [marked_heights::cases(), marked_supports::cases(), marked_books::cases(), marked_between::cases()];
-    let cases = [scaffolds, others.concat()].concat();
+    let cases = [scaffolds, others.concat(), marked_cells::cases()].concat();
     let failing = cases.iter().filter(|(_, holds)| !holds).map(|(name, _)| name.clone()).collect();
     (failing, cases.len())
 }
@@ -175,18 +175,27 @@ pub fn having<T>(found: &BTreeMap<[u32; 3], T>, something: u32) -> Vec<(u32, u32
     found.keys().filter(|key| key[2] == something).map(|key| (key[0], key[1])).collect()
 }
 
-// The pages of so long a sheet are never touched, so that they cost no memory.
 fn long_sheet() -> Cases {
-    let length = (1usize << 32) + 2;
+    let returned = with_zeros((1 << 32) + 2, |sheet| {
+        [LIBRARY, TWIN]
+            .map(|side| [(side.verdict)(sheet, &[], &mut []), (side.between)(sheet, &J.0, &J.0, &mut [0; 14])])
+    });
+    let wanted = [[(1 << 32) + 4_294_967_295; 2]; 2];
+    returned
+        .map(|returned| case("a place above 4,294,967,295 is given as that", returned == wanted))
+        .into_iter()
+        .collect()
+}
+
+/// What comes of lending so many zero bytes, none where they are not to be had. Pages never touched cost no memory.
+pub fn with_zeros<T>(length: usize, tried: impl Fn(&[u8]) -> T) -> Option<T> {
     let layout = std::alloc::Layout::from_size_align(length, 1).expect("a length below half the address space");
     let start = unsafe { std::alloc::alloc_zeroed(layout) };
     if start.is_null() {
-        println!("a sheet of {length} bytes could not be lent here; its refusal was not tried");
-        return Vec::new();
+        println!("{length} bytes could not be lent here; their refusal was not tried");
+        return None;
     }
-    let sheet = unsafe { std::slice::from_raw_parts(start, length) };
-    let returned = [LIBRARY, TWIN]
-        .map(|side| [(side.verdict)(sheet, &[], &mut []), (side.between)(sheet, &J.0, &J.0, &mut [0; 14])]);
+    let told = tried(unsafe { std::slice::from_raw_parts(start, length) });
     unsafe { std::alloc::dealloc(start, layout) };
-    vec![case("a place above 4,294,967,295 is given as that", returned == [[(1 << 32) + 4_294_967_295; 2]; 2])]
+    Some(told)
 }
