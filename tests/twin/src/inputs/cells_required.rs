@@ -17,6 +17,8 @@ fn told() -> Vec<Cell> {
     let mut cells: Vec<Cell> = (0..VALUE_TURNS).map(value_key).map(cells_values::value_cell).collect();
     cells.extend((0..WHOLE_TURNS).map(whole_key).map(cells_values::whole_cell));
     cells.extend((0..256).map(cells_values::exponent_cell));
+    // Runs of more than one record that stand by chance are too rare to be required.
+    cells.extend([(0, false), (0, true), (1, true)].map(|(whole, refused)| cells_values::pattern_cell(whole, refused)));
     for relation in 0..RELATIONS {
         cells.extend(INSIDE.map(|w| cells_runs::inside_cell(w, relation)));
         cells.extend((0..SHAPES).map(|shape| cells_runs::shape_cell(shape, relation)));

@@ -155,14 +155,22 @@ pub fn exponent_cell(exponent: u32) -> Cell {
     cell("exponent of newtons", [exponent, 0, 0, 0])
 }
 
-/// Newtons of any 32 bits: in one record, or in every record of a run.
+/// Newtons of any 32 bits: in the last record (0), or in every record of a run (1).
 pub fn pattern(random: &mut Random, _: &Lists, number: u64) -> Turn {
-    let length = 1 + random.below(8);
+    let (length, whole) = (1 + random.below(8), number % 2);
     let mut run = some_run(random, length);
-    let (from, to) = if number % 2 == 0 { (length - 1, length) } else { (0, length) };
-    for one in &mut run[from..to] {
-        *one = record(random.pick(&[PUSH, PULL]), random.next() as u32);
+    let from = if whole == 1 { 0 } else { length - 1 };
+    let mut wrong = None;
+    for at in from..length {
+        let newtons = random.next() as u32;
+        run[at] = record(random.pick(&[PUSH, PULL]), newtons);
+        wrong = wrong.or((!stand(newtons)).then_some(at as u64));
     }
-    let w = some_w(random);
-    turn(random, &run, w, Vec::new())
+    let (w, key) = (some_w(random), pattern_cell(whole, wrong.is_some()));
+    let expect = wrong.map_or(Expect::Length(4 * length as u64), |at| Expect::Refusal(14, at));
+    turn(random, &run, w, vec![(key, expect)])
+}
+
+pub fn pattern_cell(whole: u64, refused: bool) -> Cell {
+    cell("newtons of any bits", [whole as u32, u32::from(refused), 0, 0])
 }
