@@ -299,7 +299,7 @@ enum rembilung_cell_kind {
  *
  * The newtons of a push or a pull are a number from 0 to 100,000; minus zero is zero. A value that is no number, or negative,
  * or above, is refused 14; so is silence whose newtons are not four zero bytes. A run of no records is accepted, and nothing
- * is written. The time does not depend on w. */
+ * is written. The work grows with the records, and not with w. */
 uint64_t rembilung_cells(const uint8_t *records, size_t records_len,
                          uint32_t w,
                          uint8_t *out, size_t out_len);
