@@ -117,7 +117,7 @@ enum rembilung_number {
     REMBILUNG_HEIGHT_FACTOR,   /* 16  wind's height factor, thousandths: 100 to 4,000 */
     REMBILUNG_ENCLOSURE,       /* 17  1 open, 2 half closed, 3 fully closed */
     REMBILUNG_SHIELD,          /* 18  thousandths. Open: the truss shape factor, 1 to 2,000. Else the shielded share of
-                                *     the face: half closed 300 to 700; fully closed 1 to 1,000 */
+                                *     the face: half closed 1 to 700; fully closed 1 to 1,000 */
     REMBILUNG_WALL_BEHIND,     /* 19  1 closed, 2 open, framed or pierced */
     REMBILUNG_WALL_THICKNESS,  /* 20  mm: 0 to 2,000; a single row needs more than 180 */
     REMBILUNG_WALL_MAKE,       /* 21  1 sound, 2 hollow or light, 3 mortar M1.0 or weaker; a single row needs 1 */
