@@ -14,6 +14,7 @@ use Rattle.basis.specs.Rows.{First}
 use Rattle.basis.specs.Range.{lowest}
 use Rattle.basis.specs.Refusal.{nothing, first}
 use Rattle.basis.specs.declared.Refusal.{Refusal}
+use Rattle.basis.proofs.Refusals.{unless_pass}
 
 -- the test at place i fails; there is none after the last
 abbrev pub Fails : List Bool → ℕ → Type 0
@@ -38,6 +39,12 @@ lowest_none refusal tests h = lowest_all refusal 1 tests (λ i. h (suc i))
 
 pub lowest_is : (refusal : ℕ → Refusal) (tests : List Bool) (p : ℕ) → First (Fails (true ∷ tests)) p → lowest refusal 1 tests ≡ Err (refusal p)
 lowest_is refusal tests p f = lowest_first refusal 0 p (true ∷ tests) f ∙ ap (λ n. Err (refusal n)) (zero-add p)
+
+-- where nothing is refused each test passes
+pub lowest_passes : (refusal : ℕ → Refusal) (place : ℕ) (tests : List Bool) → lowest refusal place tests ≡ nothing → (i : ℕ) → T (get_or tests i true)
+lowest_passes refusal place [] e i = tt
+lowest_passes refusal place (test ∷ tests) e zero = (unless_pass test _ _ _ e).0
+lowest_passes refusal place (test ∷ tests) e (suc i) = lowest_passes refusal (suc place) tests (unless_pass test _ _ _ e).1 i
 
 -- a row of tests after another
 pub lowest_append : (refusal : ℕ → Refusal) (place : ℕ) (tests more : List Bool) → lowest refusal place (tests ++ more) ≡ first (lowest refusal place tests) (lowest refusal (place + length tests) more)

@@ -33,7 +33,7 @@ height_within family height = cond_elim (eqb family 1) _ _ (within_le 1 5000 hei
 shield_within : (enclosure shield : ℕ) → T (shield_stands enclosure shield) → (1 ≤ shield) × (shield ≤ 2000)
 shield_within enclosure shield =
     cond_elim (eqb enclosure 1) _ _ (within_le 1 2000 shield)
-    (cond_elim (eqb enclosure 2) _ _ (wider 300 700 1 2000 shield tt tt) (wider 1 1000 1 2000 shield tt tt))
+    (cond_elim (eqb enclosure 2) _ _ (wider _ _ 1 2000 shield tt tt) (wider _ _ 1 2000 shield tt tt))
 
 pub bounds : (j : Job) → Stands j → Bounds j
 unfolding Inside ranges

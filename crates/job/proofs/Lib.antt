@@ -3,3 +3,4 @@ pub mod Numbers
 pub mod Rows
 pub mod Bounds
 pub mod Fields
+pub mod Netting

@@ -15,3 +15,8 @@ job_J = job_of numbers_J
 unfoldable pub job_J_with : ℕ → ℕ → Job
 unfolding job_of numbers_J
 job_J_with k n = job_of (set numbers_J (k - 1) n)
+
+-- J half closed, so many thousandths of its face shielded: 2,800 cm high in a wind of 500 N/m² with height factor 1.2, its ties bearing 8,430 N
+unfoldable pub half_closed_J : ℕ → Job
+unfolding job_of numbers_J
+half_closed_J shield = job_of (set (set (set (set (set (set numbers_J 6 2800) 14 500) 15 1200) 16 2) 17 shield) 21 8430)

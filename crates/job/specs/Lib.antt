@@ -5,3 +5,5 @@ pub mod Rows
 pub mod Bounds
 pub mod JobJ
 pub mod Read
+pub mod Netting
+pub mod Marked

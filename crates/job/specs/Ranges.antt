@@ -14,10 +14,10 @@ lb_stands family lb = cond (eqb family 1) (eqb lb 105 || (eqb lb 130 || eqb lb 1
 abbrev pub height_stands : ℕ → ℕ → Bool
 height_stands family height = cond (eqb family 1) (within 1 5000 height) (within 1 2400 height)
 
--- 18: open 1 to 2,000; half closed 300 to 700; fully closed 1 to 1,000
+-- 18: open 1 to 2,000; half closed 1 to 700 (document 02, request 8); fully closed 1 to 1,000
 abbrev pub shield_stands : ℕ → ℕ → Bool
 shield_stands enclosure shield =
-    cond (eqb enclosure 1) (within 1 2000 shield) (cond (eqb enclosure 2) (within 300 700 shield) (within 1 1000 shield))
+    cond (eqb enclosure 1) (within 1 2000 shield) (cond (eqb enclosure 2) (within 1 700 shield) (within 1 1000 shield))
 
 -- 1 to 7
 abbrev pub geometry : Job → List Bool

@@ -164,7 +164,7 @@ fn shield_stands(enclosure: u32, shield: u32) -> bool
 {
     match Enclosure::from(enclosure) {
         Enclosure::Open => (1..=2000).contains(&shield),
-        Enclosure::HalfClosed => (300..=700).contains(&shield),
+        Enclosure::HalfClosed => (1..=700).contains(&shield),
         Enclosure::FullyClosed => (1..=1000).contains(&shield),
     }
 }

@@ -6,13 +6,14 @@ use mathlib.Core.List.{List}
 use mathlib.Core.Logic.{◌↔◌}
 use Prim.Native.Nat.{ℕ, zero, suc, ◌≤◌, ◌<◌}
 use native.Mathlib.Omega.{arith}
-use lib.Dec.{T, lit≤}
+use lib.Dec.{T}
 use lib.ListN.{get_or}
 use Rattle.std.specs.Prelude.{Ok}
-use Rattle.basis.specs.Fraction.{fractions, ◌≼◌}
+use Rattle.basis.specs.Fraction.{fractions, ceil, ◌≼◌, up}
 use Rattle.basis.proofs.Order.{mono, at_most_itself}
 use Rattle.basis.proofs.Searches.{top_exact}
 use Rattle.job.specs.declared.Job.{Job}
+use Rattle.job.specs.JobJ.{half_closed_J}
 use Rattle.job.proofs.Bounds.{bounds}
 use Rattle.section5.specs.Section5 as P
 use Rattle.sheet.specs.SheetT.{sheet_T}
@@ -87,32 +88,24 @@ accepted = (refl, refl)
 
 ordered : Harsher mild harsh
 unfolding mild harsh ◌≼◌ fractions P.soil_factor
-ordered =
-    record {
-      family = refl;
-      tube = refl;
-      boards = refl;
-      enclosure = refl;
-      wall = refl;
-      lb = lit≤ tt;
-      la = lit≤ tt;
-      step = lit≤ tt;
-      ties = lit≤ tt;
-      height = lit≤ tt;
-      boarded = lit≤ tt;
-      working = lit≤ tt;
-      q = lit≤ tt;
-      total = lit≤ tt;
-      nets = lit≤ tt;
-      weight = lit≤ tt;
-      wind = lit≤ tt;
-      exposure = lit≤ tt;
-      shield = lit≤ tt;
-      capacity = lit≤ tt;
-      soil = tt;
-      strength = lit≤ tt;
-      pad = lit≤ tt;
-    }
+ordered = search (arith)
+
+half_closed_accepted : Accepted sheet_T (half_closed_J 299) × Accepted sheet_T (half_closed_J 300)
+unfolding examined half_closed_J
+half_closed_accepted = (refl, refl)
+
+half_closed_ordered : Harsher (half_closed_J 299) (half_closed_J 300)
+unfolding half_closed_J
+half_closed_ordered = search (at_most_itself, arith)
+
+-- check 9 of such a face, in the paper's fractions
+tie : (shield : ℕ) → Accepted sheet_T (half_closed_J shield) → verdict_at sheet_T (half_closed_J shield) 8 ≡ get_or (P.verdicts (half_closed_J shield) sheet_T) 8 0
+unfolding P.judgement
+tie shield a = ap (λ r. verdict_in r 8) (accepted_answer sheet_T (half_closed_J shield) a)
+
+tie_fails : (verdict_at sheet_T (half_closed_J 299) 8 ≡ 1) × (verdict_at sheet_T (half_closed_J 300) 8 ≡ 2)
+unfolding P.paper ceil ◌≼◌ up sheet_T half_closed_J
+tie_fails = (tie 299 half_closed_accepted.0, tie 300 half_closed_accepted.1)
 
 pub demand3 : Demand3
-demand3 = record { no_pass_gained = no_pass_gained; no_height_gained = no_height_gained; no_more_permitted = no_more_permitted; height_exact = height_exact; reflexive = reflexive; unlike = (accepted.0, accepted.1, ordered) }
+demand3 = record { no_pass_gained = no_pass_gained; no_height_gained = no_height_gained; no_more_permitted = no_more_permitted; height_exact = height_exact; reflexive = reflexive; unlike = (accepted.0, accepted.1, ordered); half_closed = (half_closed_accepted.0, half_closed_accepted.1, half_closed_ordered); tie_fails = tie_fails }

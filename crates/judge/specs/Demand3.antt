@@ -3,6 +3,7 @@
 use Rattle.std.specs.Prelude.{◌≡◌, List, [], ◌∷◌, ◌↔◌, ℕ, ◌≤◌, T, Option}
 use Rattle.job.specs.declared.Job.{Job}
 use Rattle.job.specs.Job.{job_of}
+use Rattle.job.specs.JobJ.{half_closed_J}
 use Rattle.sheet.specs.SheetT.{sheet_T}
 use Rattle.section5.specs.Section5.{poles}
 use Rattle.section5.specs.Poles.{NoHigher, UpTo}
@@ -40,3 +41,6 @@ pub record Demand3 : Type 0 where
   -- jobs can stand in this order: each with itself, and unlike ones that are both accepted
   pub reflexive : (j : Job) → Harsher j j
   pub unlike : Accepted sheet_T mild × Accepted sheet_T harsh × Harsher mild harsh
+  -- half closed, on both sides of 30 %: of these the ties bear what blows on 29.9 % of the face, and fail at 30 %
+  pub half_closed : Accepted sheet_T (half_closed_J 299) × Accepted sheet_T (half_closed_J 300) × Harsher (half_closed_J 299) (half_closed_J 300)
+  pub tie_fails : (verdict_at sheet_T (half_closed_J 299) 8 ≡ 1) × (verdict_at sheet_T (half_closed_J 300) 8 ≡ 2)

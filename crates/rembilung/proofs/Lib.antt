@@ -9,3 +9,4 @@ pub mod Books
 pub mod Marked
 pub mod Between
 pub mod Cells
+pub mod Netting

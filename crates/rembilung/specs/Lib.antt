@@ -8,3 +8,4 @@ pub mod Demands
 pub mod Books
 pub mod Between
 pub mod Cells
+pub mod Netting

@@ -5,7 +5,7 @@ use Rattle.basis.specs.Fraction.{Ratio, whole, tenths, ◌⊗◌, up, down}
 use Rattle.basis.specs.Marked.{Row, row}
 use Rattle.job.specs.declared.Job.{Job}
 use Rattle.job.specs.Job.{job_of}
-use Rattle.job.specs.JobJ.{numbers_J, job_J, job_J_with}
+use Rattle.job.specs.JobJ.{numbers_J, job_J, job_J_with, half_closed_J}
 use Rattle.sheet.specs.SheetT.{tabulated, sheet_T}
 use Rattle.section5.specs.declared.Heights.{Heights}
 use Rattle.section5.specs.declared.Heights.TheVariants.{NoLine, Nowhere, Both}
@@ -52,7 +52,7 @@ unfolding sheet_T
 figure_of check j = get_or (figures j sheet_T) (check - 1) 0
 
 unfoldable pub rows : List Row
-unfolding sheet_T job_J job_J_with column_with light_with sheet_from ten_thousandths shown grounded verdict_of figure_of
+unfolding sheet_T job_J job_J_with half_closed_J column_with light_with sheet_from ten_thousandths shown grounded verdict_of figure_of
 rows =
     -- J's figures, wk, Mw, Z in tenths, verdicts and heights
     row (figures job_J sheet_T) (477521 ∷ 1584 ∷ 571785 ∷ 2777 ∷ 4160 ∷ 171 ∷ 20093 ∷ 19030 ∷ 5953 ∷ 20093 ∷ 20093 ∷ 3173 ∷ [])
@@ -86,6 +86,9 @@ rows =
     ∷ row (verdict_of 6 (column_with 1 155 184) ∷ verdict_of 6 (column_with 1 155 185) ∷ []) (1 ∷ 2 ∷ [])
     -- J with wind 350 has 8 not due, 351 due (and passes)
     ∷ row (verdict_of 8 (job_J_with 15 350) ∷ verdict_of 8 (job_J_with 15 351) ∷ []) (0 ∷ 1 ∷ [])
+    -- half closed, of which 0.1, 29.9 and 30 % are shielded: wk is 504 × 0.001, 0.299 and 0.3, and a tie bears 1.4 wk on 16.2 m² and 5,000 N
+    ∷ row (wk (half_closed_J 1) ∷ wk (half_closed_J 299) ∷ wk (half_closed_J 300) ∷ []) (1 ∷ 151 ∷ 152 ∷ [])
+    ∷ row (figure_of 9 (half_closed_J 1) ∷ figure_of 9 (half_closed_J 299) ∷ figure_of 9 (half_closed_J 300) ∷ []) (5023 ∷ 8425 ∷ 8448 ∷ [])
     -- every entry 117: 250.01, step 190, is read at 251, below entry 250; at 250.1 it would be above, 1170.3, and the pole would stand up to 852, higher than with step 189
     ∷ row (ten_thousandths (φ (light_with 190) (sheet_from 117 0))) (1161 ∷ 1162 ∷ [])
     ∷ row (shown (heights (light_with 189) (stability (light_with 189) (sheet_from 117 0)))) (851 ∷ 851 ∷ [])
