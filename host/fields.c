@@ -29,7 +29,7 @@ static const Field scaffold_fields[REMBILUNG_NUMBERS] = {
     BASIC_WIND,
     HEIGHT_FACTOR,
     {"enclosure", "1 (open), 2 (half closed) or 3 (fully closed)"},
-    {"shield", "1 to 2000 thousandths when open, 300 to 700 when half closed, 1 to 1000 when fully closed"},
+    {"shield", "1 to 2000 thousandths when open, 1 to 700 when half closed, 1 to 1000 when fully closed"},
     {"wall behind", "1 (closed) or 2 (open, framed or pierced)"},
     {"wall thickness", "0 to 2000 mm"},
     {"wall make", "1 (sound), 2 (hollow or light) or 3 (mortar M1.0 or weaker)"},

@@ -22,7 +22,7 @@ static const Field fields[REMBILUNG_NUMBERS] = {
     {ONE_WAY, 2000, 2001, 1, 2400},          {ALIKE, 1, 2, 1, 3},               {ONE_WAY, 9, 10, 9, 10},
     {ONE_WAY, 2, 3, 1, 9},                   {ONE_WAY, 2000, 2001, 0, 10000},   {ONE_WAY, 10000, 10001, 10000, 30000},
     {ONE_WAY, 100, 101, 0, 5000},            {ONE_WAY, 200, 201, 50, 500},      {ONE_WAY, 300, 301, 0, 2000},
-    {ONE_WAY, 1000, 1001, 100, 4000},        {ALIKE, 1, 2, 1, 3},               {ONE_WAY, 500, 501, 300, 700},
+    {ONE_WAY, 1000, 1001, 100, 4000},        {ALIKE, 1, 2, 1, 3},               {ONE_WAY, 299, 300, 1, 700},
     {ALIKE, 1, 2, 1, 2},                     {FREE, 240, 241, 0, 2000},         {FREE, 1, 2, 1, 3},
     {ONE_WAY, 20001, 20000, 100000, 8000},   {ONE_WAY, 5, 4, 5, 1},             {ONE_WAY, 201, 200, 2000, 10},
     {ONE_WAY, 2001, 2000, 10000, 100},
@@ -93,6 +93,25 @@ static void every_field(void) {
         one_field(field, one->mildest, one->harshest, one->way != ALIKE);
         one_field(field, one->harshest, one->mildest, one->way == FREE);
     }
+}
+
+/* Half closed at both ends, each shield below 30 % or not. */
+static void half_closed(uint32_t mild, uint32_t harsh) {
+    Pair pair = equal_pair();
+    set(&pair, 17, 2, 2);
+    set(&pair, 18, mild, harsh);
+    case_begins("half closed, shield %u at the mild end and %u at the harsh", (unsigned)mild, (unsigned)harsh);
+    if (mild <= harsh)
+        pair_stands(&pair);
+    else
+        pair_refused(&pair, 12, 18);
+}
+
+static void every_half_closed(void) {
+    static const uint32_t shields[] = {1, 2, 298, 299, 300, 301, 700};
+    for (size_t k = 0; k < sizeof shields / sizeof *shields; k++)
+        for (size_t n = 0; n < sizeof shields / sizeof *shields; n++)
+            half_closed(shields[k], shields[n]);
 }
 
 /* Of two that go the wrong way the lower is named. */
@@ -309,6 +328,7 @@ void test_between(void) {
     by_hand();
     one_buffer();
     every_field();
+    every_half_closed();
     every_two_fields();
     all_fields();
     every_two_soils();

@@ -20,9 +20,9 @@ typedef struct {
 
 enum { BAD_WAYS = 15 };
 static const Bad bad_rows[BAD_WAYS] = {
-    {job_j, 1, 3},       {job_j, 1, 0},        {job_j, 1, 259},     {job_j, 3, 106},       {job_j, 7, 5001},
-    {job_j, 17, 2},      {job_j, 25, 0},       {single_job, 3, 59}, {single_job, 7, 2401}, {single_job, 25, 10001},
-    {job_j, 10, 5},      {job_j, 12, 2999},    {single_job, 10, 8}, {single_job, 20, 180}, {single_job, 21, 2},
+    {job_j, 1, 3},         {job_j, 1, 0},           {job_j, 1, 259},         {job_j, 3, 106},       {job_j, 7, 5001},
+    {job_j, 25, 0},        {single_job, 3, 59},     {single_job, 7, 2401},   {single_job, 18, 701}, {single_job, 25, 10001},
+    {job_j, 10, 5},        {job_j, 12, 2999},       {single_job, 10, 8},     {single_job, 20, 180}, {single_job, 21, 2},
 };
 
 static uint32_t rows[FEW_NUMBERS];

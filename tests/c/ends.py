@@ -12,6 +12,7 @@ CHECKS = ("transom moment", "transom deflection", "ledger moment", "ledger defle
           "height against the permitted height")
 PASSES = ("rembilung: no check fails for any accepted job between the two ends: whatever is found there, the scaffold passes")
 FAMILY = "it may be 1 (double row) or 2 (single row)"
+SHIELD = "it may be 1 to 2000 thousandths when open, 1 to 700 when half closed, 1 to 1000 when fully closed"
 A_SUPPORT = (f"number 1, family, is 3; {FAMILY}; 3 marks a formwork support, and only scaffold jobs have jobs between them")
 NO_ORDER = "rembilung: the harsh job is not the mild one or a harsher one: "
 HELP = "; --help shows what may be given"
@@ -82,6 +83,11 @@ def two(mild, harsh):
     return changed(J, **mild) + changed(J, **harsh)
 
 
+def half_closed(shield):
+    """Numbers of J that make it pass but for its ties, which bear 8425 N of the wind on 29.9 %, 151 N/m2, and 8448 N on 30 %."""
+    return {"f7": 2800, "f15": 500, "f16": 1200, "f17": 2, "f18": shield, "f22": 8430}
+
+
 ANSWERED = [
     (T + two({"f24": 201}, {"f24": 200}), shown("111111111131", 3277, 3277),
      waits("check 11", "number 24, ground strength, from 201 to 200")),
@@ -104,10 +110,15 @@ ANSWERED = [
     (T + changed(MILDEST) + changed(HARSHEST), shown("3" * 12, 6000, "none"),
      waits("checks 1, 2, 3, 4, 5, 6, 7, 8, 9, 10, 11 and 12",
            "; ".join(f"number {k}, {FIELDS[k][0]}, from {FIELDS[k][1]} to {FIELDS[k][2]}" for k in ONE_WAY))),
+    # Mw / W takes 17.19 and 17.30 N/mm2 of 205: by check 8 the pole bears 19322.8 N up to 3081 cm, and 19311.1 N up to 3078.
+    (T + two(half_closed(299), half_closed(300)), shown("111111113111", 3081, 3078),
+     waits("check 9", "number 18, shield, from 299 to 300")),
     (T + changed(SINGLE) * 2, shown("112121221222", "none", "none"), fails("checks 3, 5, 7, 8, 10, 11 and 12")),
 ]
 
 REFUSED = [
+    (two(half_closed(0), half_closed(1)), "3 18", f"mild job: number 18, shield, is 0; {SHIELD}"),
+    (two(half_closed(1), half_closed(701)), "3 43", f"harsh job: number 18, shield, is 701; {SHIELD}"),
     (two({"f4": 59}, {}), "3 4", "mild job: number 4, bay, is 59; it may be 60 to 200 cm"),
     (two({}, {"f4": 59}), "3 29", "harsh job: number 4, bay, is 59; it may be 60 to 200 cm"),
     (two({}, {"f24": 2001}), "3 49", "harsh job: number 24, ground strength, is 2001; it may be 10 to 2000 kPa"),

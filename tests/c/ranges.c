@@ -17,9 +17,9 @@ static const Range ranges[] = {
     {1, 1, 1, 1, 2},       {1, 1, 2, 1, 2},         {2, 1, 3, 60, 150},    {1, 1, 4, 60, 200},     {1, 1, 5, 60, 200},
     {1, 1, 6, 2, 3},       {1, 1, 7, 1, 5000},      {2, 1, 7, 1, 2400},    {1, 1, 8, 1, 3},        {1, 1, 9, 1, 10},
     {1, 1, 10, 1, 9},      {1, 1, 11, 0, 10000},    {1, 1, 12, 0, 30000},  {1, 1, 13, 0, 5000},    {1, 1, 14, 50, 500},
-    {1, 1, 15, 0, 2000},   {1, 1, 16, 100, 4000},   {1, 1, 17, 1, 3},      {1, 1, 18, 1, 2000},    {1, 2, 18, 300, 700},
+    {1, 1, 15, 0, 2000},   {1, 1, 16, 100, 4000},   {1, 1, 17, 1, 3},      {1, 1, 18, 1, 2000},    {1, 2, 18, 1, 700},
     {1, 3, 18, 1, 1000},   {1, 1, 19, 1, 2},        {1, 1, 20, 0, 2000},   {1, 1, 21, 1, 3},       {1, 1, 22, 8000, 100000},
-    {1, 1, 23, 1, 5},      {1, 1, 24, 10, 2000},    {1, 1, 25, 100, 10000}, {2, 1, 4, 60, 200},    {2, 3, 18, 1, 1000},
+    {1, 1, 23, 1, 5},      {1, 1, 24, 10, 2000},    {1, 1, 25, 100, 10000}, {2, 1, 4, 60, 200},    {2, 3, 18, 1, 1000}, {2, 2, 18, 1, 700},
     {1, 1, 3, 105, 105},   {1, 1, 3, 130, 130},     {1, 1, 3, 155, 155},
     {3, 0, 1, 3, 3},       {3, 0, 2, 1, 2},         {3, 0, 3, 60, 200},    {3, 0, 4, 0, 100},      {3, 0, 5, 60, 200},
     {3, 0, 6, 0, 60000},   {3, 0, 7, 0, 60000},     {3, 0, 8, 0, 2000},    {3, 0, 9, 100, 4000},   {3, 0, 10, 0, 2000},
@@ -117,6 +117,16 @@ static void ends_of(const Range *range) {
     outside(range, UINT32_MAX);
 }
 
+/* Half closed, below the 30 % with which table 4.2.4 begins, and from there on. */
+static void half_closed(void) {
+    static const uint32_t shields[] = {2, 127, 128, 298, 299, 300, 301, 699};
+    for (uint32_t family = 1; family <= 2; family++)
+        for (size_t k = 0; k < sizeof shields / sizeof *shields; k++) {
+            case_begins("family %u, half closed, shield %u", (unsigned)family, (unsigned)shields[k]);
+            job_accepted(with(plain(family, 2), 18, shields[k]));
+        }
+}
+
 /* Two fields are outside: the lower is named, and the family and the enclosure before what hangs on them. */
 static void lowest_named(Job job, int lower, int higher) {
     case_begins("of %zu numbers fields %d and %d both at 4294967295", job.kind->count, lower, higher);
@@ -180,6 +190,7 @@ static void longest_files(void) {
 void test_ranges(void) {
     for (size_t k = 0; k < sizeof ranges / sizeof *ranges; k++)
         ends_of(&ranges[k]);
+    half_closed();
     lowest_of_neighbours(plain(1, 1));
     lowest_of_neighbours(plain(3, 0));
     contradictions();

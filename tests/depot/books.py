@@ -1,7 +1,7 @@
 """Season's books and the tables they are made from, and what is due for each, by hand from the papers and docs/DEPOTS.md."""
 import given
 import tables
-from tables import HEAD, J, SINGLE, lines, with_cell
+from tables import HEAD, J, SHIELDED, SINGLE, lines, with_cell
 
 # The numbers of job J in groups of seven bits: 150 is 1 x 128 + 22, so 96 01; 3000 is 23 x 128 + 56, so B8 17.
 J_GROUPS = ("01 01 69 9601 B401 02 B817 03 04 02 B817 8827 00 AC02 AC02 E807 01 C801 01 F001 01 C03E 04 C801 D00F").split(" ")
@@ -23,6 +23,8 @@ ONE_J = bytes.fromhex("01 01 01 69 96 01 B4 01 02 B8 17 03 04 02 B8 17 88 27 00 
 TWO = bytes.fromhex("02  01 02  01 02  69 6C  9601 B401  B401 9601  02 02  B817 DE08  03 01  04 07  02 01  B817 DB2A  8827 B0EA01"
                     "  00 A406  AC02 8801  AC02 DF02  E807 9207  01 02  C801 D804  01 01  F001 DF01  01 01  C03E 807D  04 04"
                     "  C801 9601  D00F 8506")
+# J half closed: enclosure 2, and 299 is 2 x 128 + 43, so AB 02.
+ONE_SHIELDED = ONE_J.replace(bytes.fromhex("E807 01 C801"), bytes.fromhex("E807 02 AB02"))
 J_200 = alike("C801", 200, J_GROUPS)
 MOST_200 = alike("C801", 200, MOST_GROUPS)
 # 200 rows whose numbers all are 4294967295, of five bytes: no number is damaged, and so long no book can stand.
@@ -35,6 +37,7 @@ SINGLE_BACK = ",".join(reversed(SINGLE.split(",")))
 # Tables that make a book: name, table, book, standard error.
 PACKED = [
     ("names and one row", lines(HEAD, J), ONE_J, ONE_ROW),
+    ("half closed, 29.9 % shielded", lines(HEAD, SHIELDED), ONE_SHIELDED, ONE_ROW),
     ("names alone", lines(HEAD), NONE, ["rembilung: rows: 0"]),
     ("names alone, and blank rows", lines("", HEAD, "", ","), NONE, ["rembilung: rows: 0", "rembilung: blank rows passed over: 3"]),
     ("two rows", lines(HEAD, J, SINGLE), TWO, TWO_ROWS),
@@ -113,6 +116,7 @@ TABLE_HEAD = "book row," + HEAD
 SHOWN = [
     ("no rows", NONE, lines(TABLE_HEAD)),
     ("J", ONE_J, lines(TABLE_HEAD, "0," + J)),
+    ("half closed, 29.9 % shielded", ONE_SHIELDED, lines(TABLE_HEAD, "0," + SHIELDED)),
     ("two rows", TWO, lines(TABLE_HEAD, "0," + J, "1," + SINGLE)),
     ("200 rows", J_200, lines(TABLE_HEAD, *[f"{k},{J}" for k in range(200)])),
     ("200 rows of the greatest numbers", MOST_200, lines(TABLE_HEAD, *[f"{k},{MOST}" for k in range(200)])),

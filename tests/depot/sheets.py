@@ -101,7 +101,7 @@ SHOWN_J = """\
   15  basic wind: 300  [0 to 2000 N/m2]
   16  height factor: 1000  [100 to 4000 thousandths]
   17  enclosure: 1  [1 (open), 2 (half closed) or 3 (fully closed)]
-  18  shield: 200  [1 to 2000 thousandths when open, 300 to 700 when half closed, 1 to 1000 when fully closed]
+  18  shield: 200  [1 to 2000 thousandths when open, 1 to 700 when half closed, 1 to 1000 when fully closed]
   19  wall behind: 1  [1 (closed) or 2 (open, framed or pierced)]
   20  wall thickness: 240  [0 to 2000 mm]
   21  wall make: 1  [1 (sound), 2 (hollow or light) or 3 (mortar M1.0 or weaker)]

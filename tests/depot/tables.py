@@ -29,6 +29,11 @@ AS_PERMITTED_DUE = ("passes,,,,,,1,1,1,1,1,1,1,0,1,1,1,"
 HIGHER = "1,1,105,150,180,2,3174,3,4,2,3000,5000,0,300,300,1000,1,200,1,240,1,8000,4,208,2000"
 HIGHER_DUE = ("fails,,,,check 12 fails: height against the permitted height,12,1,1,1,1,1,1,1,0,1,1,1,"
               "3174,3277,3173,477521,1584,571785,2777,4160,171,20719,19656,5953,20719,20719,42,24291,1974,2,3173")
+# J half closed, 29.9 % of the face shielded: wk = 0.7 x 1.2 x 0.299 x 300 = 75.348, Mw = 1.19 x 76 x 1.5 x 1.8 x 1.8 / 10, check 8
+# is due, and a tie bears 1.4 x 76 x 16.2 and 5000.
+SHIELDED = "1,1,105,150,180,2,3000,3,4,2,3000,5000,0,300,300,1000,2,299,1,240,1,8000,4,200,2000"
+SHIELDED_DUE = ("fails,,,,check 11 fails: pole force against what the ground under the pad bears,11,1,1,1,1,1,1,1,1,1,1,2,"
+                "3000,3277,3173,477521,1584,571785,2777,4160,171,20093,19030,6724,20093,20093,76,43954,1974,1,3173")
 # The second job of tests/vectors/jobs.txt: a single row that stands at no height.
 SINGLE = "2,2,108,180,150,2,1118,1,7,1,5467,30000,804,136,351,914,2,600,1,223,1,16000,4,150,773"
 SINGLE_DUE = ("fails,,,,check 3 fails: ledger moment,3,1,1,2,1,2,1,2,2,1,2,2,"
@@ -142,6 +147,7 @@ GOOD = [
     ("passes, fails, stands at no height", lines(HEAD, PASS, J, SINGLE), answers("2,," + PASS_DUE, "3,," + J_DUE, "4,," + SINGLE_DUE),
      sums(3, 1, 2, [(3, "ledger moment", 1), (5, "slip at the coupler", 1), (7, "pole stability without wind", 1),
                     (8, "pole stability with wind", 1), (10, "pole force against 40000 N", 1), (*GROUND, 2), (*HEIGHT, 1)])),
+    ("half closed, 29.9 % shielded", lines(HEAD, SHIELDED), answers("2,," + SHIELDED_DUE), ONE_J),
     ("as high as permitted, and a centimetre higher", lines(HEAD, AS_PERMITTED, HIGHER),
      answers("2,," + AS_PERMITTED_DUE, "3,," + HIGHER_DUE), sums(2, 1, 1, [(*HEIGHT, 1)])),
     ("a row of exactly 65536 bytes", lines("n," + HEAD, "x" * (65536 - len(J.replace(",", ""))) + "," + J),
@@ -150,6 +156,7 @@ GOOD = [
 ]
 
 BAY = "; it may be 60 to 200 cm"
+SHIELD = "; it may be 1 to 2000 thousandths when open, 1 to 700 when half closed, 1 to 1000 when fully closed"
 # A row among good ones: name, the row, and its answer with what is said of it, as row 3.
 BAD = [
     ("a word", with_cell(4, "1x0"), unread(3, "D3", "column D, bay: '1x0' is not a whole number" + BAY + ONLY_DIGITS)),
@@ -190,6 +197,9 @@ BAD = [
     ("a row of 300000 bytes in quotes", '"' + "ab\n" * 100000 + '"', unread(3, "", "the row has more than 65536 bytes, and is not read")),
     ("1025 cells", "," * 1023 + "1,", unread(3, "", "the row has more than 1024 cells, and is not read")),
     ("outside its range", with_cell(4, "59"), refused(3, 3, 4, "D3", "column D: number 4, bay, is 59" + BAY)),
+    ("half closed, nothing shielded", with_cell(18, "0", SHIELDED), refused(3, 3, 18, "R3", "column R: number 18, shield, is 0" + SHIELD)),
+    ("half closed, 70.1 % shielded", with_cell(18, "701", SHIELDED),
+     refused(3, 3, 18, "R3", "column R: number 18, shield, is 701" + SHIELD)),
     ("the lowest field outside its range", with_cell(25, "99", with_cell(8, "0")),
      refused(3, 3, 8, "H3", "column H: number 8, boards, is 0; it may be 1 (steel), 2 (bamboo) or 3 (timber)")),
     ("a support, which has no table", with_cell(1, "3"),

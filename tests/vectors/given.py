@@ -4,7 +4,8 @@ A line `sheet;NAME;ENTRIES` of request-NN.txt is a column sheet for the cases of
 is a case: the word of its call, and the parts after it. A part of no bytes or no numbers is '-'.
 
 The answers in a request's file are those after that request. Since request 5 a report has a line 12, so the reports in the files
-of earlier requests are handed out as `report_since_5` makes them, from what was given alone; the files stay as they are.
+of earlier requests are handed out as `report_since_5` makes them, from what was given alone; since request 8 a half closed face
+takes shields below 300, and what an earlier refusal of one became stands in `SINCE_8`. The files stay as they are.
 """
 import collections
 import pathlib
@@ -23,6 +24,12 @@ REPORT = r"[0-9a-z]+( [0-9a-z]+)+(\|[0-9a-z]+( [0-9a-z]+)+)+"
 # A report before request 5: eleven checks, the heights of a scaffold, and the rest.
 BEFORE_5 = r"((?:[0-9]+ [012] [0-9]+\|){11})(?:height (none|[0-9]+ [0-9]+)\|)?(wind .*)"
 SUPPORT_LINE_12 = "12 0 0|"
+# Cases of earlier files whose refusal was of field 18, half closed, at 1 to 299: the file and the line, and what is due by the
+# papers since request 8.
+SINCE_8 = {
+    # The harsh job's shield is 2, and both jobs stand; 12 names their enclosures, 3 at the mild end and 2 at the harsh.
+    ("request-06.txt", 84): "refused 12 17",
+}
 HEXADECIMAL = r"-|([0-9a-f]{2})+"
 NUMBER_ROW = r"[0-9]{1,10}( [0-9]{1,10})*"
 # The bytes of a book or of records, W*N being the word W N times, and rows, one followed by *N standing N times.
@@ -382,12 +389,20 @@ def book_reading_of(case):
     return BookReading(case.file, case.line, book_in(case, data), room_in(case, room), due)
 
 
+def answer_since_8(case, answer):
+    """An answer as it is since request 8."""
+    due = SINCE_8.get((case.file, case.line))
+    if due and answer not in ("refused 3 18", "refused 3 43"):
+        raise fault_in(case, f"a refusal of field 18 of either job expected, '{answer}' found")
+    return due or answer
+
+
 def between_of(case):
     """The case of a line between;SHEET;MILD;HARSH;ANSWER."""
     name, mild, harsh, answer = parts_of(case, "SHEET;MILD;HARSH;ANSWER")
     due = answer_in(case, answer, OUTCOMES, "twelve outcomes and two heights")
     ends = [numbers_in(case, text, NUMBERS) for text in (mild, harsh)]
-    return Between(case.file, case.line, sheet_in(case, name), *ends, due)
+    return Between(case.file, case.line, sheet_in(case, name), *ends, answer_since_8(case, due))
 
 
 def cells_of(case):
