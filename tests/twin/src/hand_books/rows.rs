@@ -34,7 +34,7 @@ pub const J_GROUPS: [&[u8]; 25] = [
 
 /// A row unlike J in 24 fields: single row, half closed. Field 21 has to be 1 in a single row, and is 1 in J.
 /// Accepted: lb 128 of 60 to 150, height 2400 of 1 to 2,400, 9 working of 10 boarded layers, Q above q, shield 700 of
-/// 300 to 700, wall of 181 mm, make 1. 39 bytes: 13 numbers of one byte, 10 of two, 2 of three.
+/// 1 to 700, wall of 181 mm, make 1. 39 bytes: 13 numbers of one byte, 10 of two, 2 of three.
 pub const K: [u32; 25] = [
     2, 2, 128, 60, 127, 3, 2400, 1, 10, 9, 10000, 30000, 5000, 500, 2000, 4000, 2, 700, 2, 181, 1, 100000, 5, 10, 10000,
 ];

@@ -101,7 +101,7 @@ pub fn range(job: &Job, field: usize) -> RangeInclusive<u32> {
 fn shield_range(enclosure: u32) -> RangeInclusive<u32> {
     match enclosure {
         1 => 1..=2_000,
-        2 => 300..=700,
+        2 => 1..=700,
         _ => 1..=1_000,
     }
 }

@@ -1,4 +1,4 @@
-//! Document 01 with requests 1/14 to 7/14, in its own order and in exact fractions: what the library is compared with.
+//! Document 01 with requests 1/14 to 8/14, in its own order and in exact fractions: what the library is compared with.
 
 pub mod between;
 pub mod book;
