@@ -175,9 +175,14 @@ pub fn promised(random: &mut Random, _: &Lists, number: u64) -> Turn {
             ([mild, heavier(random, &mild)], Sheet(valid(random)))
         }
     };
+    with_jobs_between(random, &pair, &sheet, Vec::new())
+}
+
+/// The call on two ends, with its cells, then verdicts on both and on jobs between them.
+pub fn with_jobs_between(random: &mut Random, pair: &Pair, sheet: &Sheet, cells: Cells) -> Turn {
     let mut jobs = pair.to_vec();
-    jobs.extend((0..BETWEEN).map(|_| inside(random, &pair)));
-    let mut calls: Vec<Planned> = vec![judged(random, &pair, &sheet.0, Vec::new())];
+    jobs.extend((0..BETWEEN).map(|_| inside(random, pair)));
+    let mut calls: Vec<Planned> = vec![judged(random, pair, &sheet.0, cells)];
     calls.extend(jobs.iter().map(|job| kinds::judged(random, job, &sheet.0, Vec::new())));
     Turn { calls, relation: Relation::Between }
 }

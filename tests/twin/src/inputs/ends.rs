@@ -36,9 +36,11 @@ fn values(field: usize, family: u32, enclosure: u32) -> Vec<u32> {
     let (low, high) = (*range(&job, field).start(), *range(&job, field).end());
     let mut values = vec![low, low + 1, high - 1, high, high + 1, u32::MAX];
     values.extend(low.checked_sub(1));
-    match (field, family) {
-        (3, 1) => values.extend([106, 129, 130, 131, 154]),
-        (20, 2) => values.extend([179, 180, 181, 182]),
+    match (field, family, enclosure) {
+        (3, 1, _) => values.extend([106, 129, 130, 131, 154]),
+        // Half closed faces from 300 on were all that was taken before request 8/14.
+        (18, _, 2) => values.extend([299, 300]),
+        (20, 2, _) => values.extend([179, 180, 181, 182]),
         _ => {}
     }
     values
@@ -59,7 +61,7 @@ pub fn suited(random: &mut Random, job: Job, field: usize) -> Job {
         10 => job.with(9, 10),
         11 => job.with(12, 30_000),
         12 => job.with(11, job.field(12).min(random.within(0, 10_000))),
-        17 => job.with(18, random.within(300, 700)),
+        17 => job.with(18, random.within(1, 700)),
         _ => job,
     }
 }

@@ -4,13 +4,14 @@ use super::any_job::AnyJob;
 use super::exact::at_limit as job_at_limit;
 use super::jobs::{accepted, any_accepted, bounds, heavier};
 use super::sheets::{Entries, valid};
+use super::shields::share_cell;
 use super::tuned::{AIMS, Aim, Edge, around, bisect, edge, is_between, near_capacity};
 use super::{Lists, Planned, Relation, Turn, files, verdict};
 use crate::call::Call;
 use crate::coverage::{Cell, Expect, cell};
 use crate::paper::checks::check;
 use crate::paper::heights::reported;
-use crate::paper::job::Fields;
+use crate::paper::job::{Fields, Job};
 use crate::paper::sheet::Sheet;
 use crate::random::Random;
 
@@ -47,10 +48,9 @@ where
 pub fn uniform(random: &mut Random, _: &Lists, turn: u64) -> Turn {
     let job = any_accepted(random);
     let kind = [0, 0, 0, 1, 2][turn as usize % 5];
-    single(
-        through(random, kind, &job),
-        vec![(cell("accepted", [kind as u32, job.field(1), job.field(2), job.field(17)]), Expect::Success)],
-    )
+    let of_kind = cell("accepted", [kind as u32, job.field(1), job.field(2), job.field(17)]);
+    let cells = std::iter::once(of_kind).chain(share_cell(kind as u32, &job));
+    single(through(random, kind, &job), cells.map(|cell| (cell, Expect::Success)).collect())
 }
 
 /// The sides of a limit.
@@ -219,22 +219,26 @@ pub fn limit_pair_cell(aim: Aim, order: u32) -> Cell {
 /// it, where field 7 allows them.
 pub fn heights(random: &mut Random, _: &Lists, turn: u64) -> Turn {
     let (family, tube, enclosure) = (1 + (turn % 2) as u32, random.within(1, 2), random.within(1, 3));
-    let mut job = accepted(random, family, tube, enclosure);
+    let job = accepted(random, family, tube, enclosure);
     let (height, share) = (job.field(7), random.within(1_000, 1_200));
     let sheet = near_capacity(random, &job, height, share).unwrap_or_else(|| Sheet(valid(random)));
-    let heights = reported(&job, &sheet);
+    at_heights(random, turn, job, &sheet, |above| cell("own height", [family, above, 0, 0]))
+}
+
+/// The calls on a job at these heights; the cell with 0 is that of the stability height, with 1 of the one above it.
+pub fn at_heights(random: &mut Random, turn: u64, job: Job, sheet: &Sheet, cell: impl Fn(u32) -> Cell) -> Turn {
+    let heights = reported(&job, sheet);
     let (greatest, permitted) =
         (heights.map(|(stability, _)| stability), heights.map_or(0, |(_, permitted)| permitted));
     let highest = bounds(&job, 7).1;
     let first = [random.within(1, highest), permitted, permitted + 1][turn as usize / 2 % 3];
-    job = job.with(7, first.clamp(1, highest));
     let at = greatest.filter(|height| (1..=highest).contains(height));
     let above = greatest.map_or(1, |height| height + 1);
-    let mut calls = vec![judged(random, &job, &sheet.0, Vec::new())];
-    let cells = at.map(|_| (cell("own height", [family, 0, 0, 0]), Expect::Poles(true))).into_iter().collect();
+    let mut calls = vec![judged(random, &job.with(7, first.clamp(1, highest)), &sheet.0, Vec::new())];
+    let cells = at.map(|_| (cell(0), Expect::Poles(true))).into_iter().collect();
     calls.push(judged(random, &job.with(7, at.unwrap_or(highest)), &sheet.0, cells));
     let allowed = above <= highest;
-    let cells = allowed.then_some((cell("own height", [family, 1, 0, 0]), Expect::Poles(false))).into_iter().collect();
+    let cells = allowed.then(|| (cell(1), Expect::Poles(false))).into_iter().collect();
     calls.push(judged(random, &job.with(7, if allowed { above } else { 1 }), &sheet.0, cells));
     Turn { calls, relation: Relation::Heights }
 }

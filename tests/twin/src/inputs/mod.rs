@@ -26,6 +26,9 @@ pub mod jobs;
 pub mod kinds;
 pub mod required;
 pub mod sheets;
+pub mod shield_limits;
+pub mod shield_required;
+pub mod shields;
 pub mod slender;
 pub mod support_columns;
 pub mod support_damage;
@@ -105,7 +108,7 @@ struct Kind {
     calls: usize,
 }
 
-const KINDS: [Kind; 101] = [
+const KINDS: [Kind; 110] = [
     Kind { make: kinds::uniform, turns: 140, calls: 1 },
     Kind { make: damage::wild, turns: 24, calls: 1 },
     Kind { make: damage::end, turns: 90, calls: 1 },
@@ -207,6 +210,15 @@ const KINDS: [Kind; 101] = [
     Kind { make: cells_damage::length, turns: 1, calls: 1 },
     Kind { make: cells_damage::room, turns: 2, calls: 1 },
     Kind { make: cells_damage::faults, turns: 2, calls: 1 },
+    Kind { make: shields::alone, turns: 3, calls: 1 },
+    Kind { make: shields::row, turns: 2, calls: 1 },
+    Kind { make: shields::bad_row, turns: 1, calls: 1 },
+    Kind { make: shields::ends, turns: 3, calls: 1 },
+    Kind { make: shields::unlike, turns: 1, calls: 1 },
+    Kind { make: shield_limits::limit, turns: 2, calls: 2 },
+    Kind { make: shield_limits::pair, turns: 1, calls: 2 },
+    Kind { make: shield_limits::heights, turns: 1, calls: 3 },
+    Kind { make: shield_limits::between, turns: 1, calls: 7 },
 ];
 
 /// The number of calls in a block.

@@ -19,7 +19,7 @@ use super::support_kinds::{accepted_cell, still_cell};
 use super::support_limits::{self, STILL, aim};
 use super::supports::{ANY_FIELD, FAMILY, LOADS_AND_GROUND};
 use super::tuned::{AIMS, Aim};
-use super::{Lists, cells_required, faults, support_damage, support_kinds};
+use super::{Lists, cells_required, faults, shield_required, support_damage, support_kinds};
 use crate::coverage::{Cell, cell};
 use crate::round_trip::round_trip_cell;
 use crate::throughout::throughout_cell;
@@ -55,6 +55,7 @@ pub fn cells(lists: &Lists) -> Vec<Cell> {
     cells.extend(told_of_ends(lists));
     cells.extend(refused_ends(lists));
     cells.extend(cells_required::cells());
+    cells.extend(shield_required::cells());
     cells
 }
 
