@@ -12,6 +12,7 @@ mod marked_between;
 mod marked_books;
 mod marked_cells;
 mod marked_heights;
+mod marked_shields;
 mod marked_supports;
 mod options;
 mod paper;

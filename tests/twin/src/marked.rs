@@ -11,7 +11,7 @@ use crate::paper::file::groups;
 use crate::paper::fraction::d;
 use crate::paper::job::{Fields, Job};
 use crate::paper::sheet::Sheet;
-use crate::{marked_between, marked_books, marked_cells, marked_heights, marked_supports};
+use crate::{marked_between, marked_books, marked_cells, marked_heights, marked_shields, marked_supports};
 use std::collections::BTreeMap;
 
 /// Job J.
@@ -26,7 +26,7 @@ const REPORT_OF_J: &str = "1 1 477521\n2 1 1584\n3 1 571785\n4 1 2777\n5 1 4160\
 pub fn failing() -> (Vec<String>, usize) {
     let scaffolds = [judged(), columns(), lines(), walls_and_sheets(), files(), long_sheet(), searches()].concat();
     let others = [marked_heights::cases(), marked_supports::cases(), marked_books::cases(), marked_between::cases()];
-    let cases = [scaffolds, others.concat(), marked_cells::cases()].concat();
+    let cases = [scaffolds, others.concat(), marked_cells::cases(), marked_shields::cases()].concat();
     let failing = cases.iter().filter(|(_, holds)| !holds).map(|(name, _)| name.clone()).collect();
     (failing, cases.len())
 }

@@ -1,6 +1,7 @@
 //! Marked cases of two ends, worked out by hand from document 01 and request 6/14, tried on twin and library.
 
 mod refused;
+mod shields;
 mod told;
 
 use crate::compare::{LIBRARY, Side, TWIN};
@@ -9,7 +10,7 @@ use crate::inputs::sheets::{sheet_t, to_bytes};
 use crate::marked::{Cases, case};
 
 pub fn cases() -> Cases {
-    [told::cases(), refused::cases()].concat()
+    [told::cases(), refused::cases(), shields::cases()].concat()
 }
 
 /// What stands in the 14 numbers before each call.

@@ -4,7 +4,7 @@ use super::rows::*;
 use super::trying::Cases;
 
 /// Writing and reading refuse alike.
-fn both(cases: &mut Cases, name: &str, rows: &[[u32; 25]], groups: &[[&[u8]; 25]], place: u64) {
+pub fn both(cases: &mut Cases, name: &str, rows: &[[u32; 25]], groups: &[[&[u8]; 25]], place: u64) {
     cases.write_refused(name, rows.as_flattened(), 9000, 11, place);
     let counted = book(&[rows.len() as u8], groups);
     cases.read_refused(name, &counted, 25 * rows.len(), 11, place);

@@ -8,6 +8,7 @@ mod counts;
 mod damage;
 mod order;
 mod rows;
+mod shields;
 mod trying;
 mod whole;
 
@@ -25,6 +26,7 @@ fn of(mut cases: Cases) -> marked::Cases {
     counts::all(&mut cases);
     damage::all(&mut cases);
     bad_rows::all(&mut cases);
+    shields::all(&mut cases);
     order::all(&mut cases);
     cases.told
 }
