@@ -12,7 +12,7 @@ pub fn cases() -> Cases {
     [each(), lowest()].concat()
 }
 
-/// Enclosure, shield, and the field that 3 names, 0 where both stand. Request 8/14 moved those of enclosure 2 below 300.
+/// Enclosure, shield, and the field that 3 names, 0 where both stand. Request 8/14 moved enclosure 2 below 300.
 const SHIELDS: [(u32, u32, u64); 42] = [
     (2, 0, 18),
     (2, 1, 0),

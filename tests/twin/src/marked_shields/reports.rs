@@ -54,7 +54,7 @@ fn double_rows() -> Cases {
 }
 
 /// N = 7,339.5 + 2.4 × 2,400 = 13,099.5, to 15,036.75. Nw = 1,827 + 1.19 × 3,937.5 + 5,760 = 6,512.625 + 5,760.
-/// Nw may be (205 − Mw / 5,080) × 73.35, φ being 0.150; N may be 15,036, which is 3,206 high. 22.68 wk + 3,000 to 8,943.
+/// Nw may be (205 − Mw / 5,080) × 73.35, φ being 0.150; N may be 15,036, so 3,206 high. 22.68 wk + 3,000 to 8,943.
 /// 6: 1.8 × 1,800 / 15.8 = 205.06, and 1.155 times that is 236.85.
 fn single_rows() -> Cases {
     let reports = [
