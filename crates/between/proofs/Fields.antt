@@ -3,7 +3,7 @@
 use mathlib.Core.Path.{◌≡◌, ◌∙◌, refl, ap}
 use mathlib.Core.Bool.{Bool, true}
 use mathlib.Core.List.{List, [], ◌∷◌}
-use mathlib.Core.Logic.{◌↔◌, ◌⊎◌, inl, inr, ⊎_elim}
+use mathlib.Core.Logic.{◌↔◌, inl, inr, ⊎_elim}
 use Prim.Native.Nat.{ℕ, zero, suc}
 use native.Mathlib.Omega.{arith}
 use lib.Dec.{T, eqb, leb}
@@ -12,7 +12,6 @@ use lib.ListN.{length, get_or, set}
 use Rattle.std.proofs.lemmas.List.{length-set}
 use Rattle.basis.specs.Fraction.{◌≼◌}
 use Rattle.basis.specs.Rows.{First, Refused, Follows}
-use Rattle.basis.specs.Refusal.{nothing}
 use Rattle.basis.specs.declared.Refusal.TheVariants.{Disorder}
 use Rattle.basis.proofs.Lowest.{Fails, lowest_none, lowest_is, lowest_every, set_passes}
 use Rattle.basis.proofs.Rows.{refused_is}

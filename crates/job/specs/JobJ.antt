@@ -1,4 +1,4 @@
--- Job J of document 01.
+-- Job J of document 01, and J half closed.
 -- Assumes nothing.
 use Rattle.std.specs.Prelude.{ℕ, ◌-◌, List, [], ◌∷◌, set}
 use Rattle.job.specs.declared.Job.{Job}

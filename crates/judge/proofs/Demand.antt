@@ -57,6 +57,11 @@ module _ (s : List ℕ) (j : Job) (a : Accepted s j) where
   unfolding W.judgement
   verdicts_are i = ap (λ r. verdict_in r i) answer_is
 
+  -- the same in the paper's fractions
+  pub verdict_judged : (i : ℕ) → verdict_at s j i ≡ get_or (P.verdicts j s) i 0
+  unfolding P.judgement
+  verdict_judged i = ap (λ r. verdict_in r i) (accepted_answer s j a)
+
   heights_are : heights_in (answer s j) ≡ W.heights j.family (W.count s j)
   unfolding W.judgement
   heights_are = ap heights_in answer_is
@@ -98,14 +103,9 @@ half_closed_ordered : Harsher (half_closed_J 299) (half_closed_J 300)
 unfolding half_closed_J
 half_closed_ordered = search (at_most_itself, arith)
 
--- check 9 of such a face, in the paper's fractions
-tie : (shield : ℕ) → Accepted sheet_T (half_closed_J shield) → verdict_at sheet_T (half_closed_J shield) 8 ≡ get_or (P.verdicts (half_closed_J shield) sheet_T) 8 0
-unfolding P.judgement
-tie shield a = ap (λ r. verdict_in r 8) (accepted_answer sheet_T (half_closed_J shield) a)
-
 tie_fails : (verdict_at sheet_T (half_closed_J 299) 8 ≡ 1) × (verdict_at sheet_T (half_closed_J 300) 8 ≡ 2)
 unfolding P.paper ceil ◌≼◌ up sheet_T half_closed_J
-tie_fails = (tie 299 half_closed_accepted.0, tie 300 half_closed_accepted.1)
+tie_fails = (verdict_judged sheet_T (half_closed_J 299) half_closed_accepted.0 8, verdict_judged sheet_T (half_closed_J 300) half_closed_accepted.1 8)
 
 pub demand3 : Demand3
 demand3 = record { no_pass_gained = no_pass_gained; no_height_gained = no_height_gained; no_more_permitted = no_more_permitted; height_exact = height_exact; reflexive = reflexive; unlike = (accepted.0, accepted.1, ordered); half_closed = (half_closed_accepted.0, half_closed_accepted.1, half_closed_ordered); tie_fails = tie_fails }

@@ -25,6 +25,7 @@ use borrow.Author.Tests.{eq-eqb}
 use Rattle.section5.specs.Section5.{judgement}
 use Rattle.judge.specs.Demand3.{stability_of}
 use Rattle.judge.specs.Demand3 as Judge
+use Rattle.judge.proofs.Demand.{verdict_judged}
 use Rattle.between.specs.Order as Order
 use Rattle.between.specs.declared.Between.{Between as Told}
 use Rattle.between.specs.Order.{disorder}
@@ -42,7 +43,7 @@ use Rattle.rembilung.specs.Header.{Halves}
 use Rattle.rembilung.proofs.Table.{sheet_follows}
 use Rattle.rembilung.proofs.Header.{halves}
 use Rattle.rembilung.proofs.Answered.{refuses}
-use Rattle.rembilung.proofs.Demands.{judged, verdict_judged, stability_judged}
+use Rattle.rembilung.proofs.Demands.{judged, stability_judged}
 
 -- ---- What is refused
 

@@ -29,7 +29,7 @@ use Rattle.section5.specs.Harsher.{Harsher, HarsherSupport}
 use Rattle.judge.specs.Answer.{Accepted, answer, verdict_in, heights_in, stability_told, permitted_told}
 use Rattle.judge.specs.Demand3 as Judging
 use Rattle.judge.proofs.Ways.{stands_accepted, accepted_answer}
-use Rattle.judge.proofs.Demand.{demand3}
+use Rattle.judge.proofs.Demand.{verdict_judged, demand3}
 use Rattle.formwork.specs.Answer.{Accepted as SupportAccepted}
 use Rattle.formwork.specs.Order as Order
 use Rattle.formwork.proofs.Ways as Supporting
@@ -125,10 +125,6 @@ accepted : (sheet file ns : List ℕ) → Judges scaffold sheet file ns → Acce
 accepted sheet file ns a = judged sheet (job_of ns) a.sheet_stands a.reads.stands
 
 module _ (s : List ℕ) (j : Job) (a : Accepted s j) where
-  pub verdict_judged : (i : ℕ) → Judging.verdict_at s j i ≡ get_or (verdicts j s) i 0
-  unfolding judgement
-  verdict_judged i = ap (λ r. verdict_in r i) (accepted_answer s j a)
-
   heights_judged : heights_in (answer s j) ≡ heights j (stability j s)
   unfolding judgement
   heights_judged = ap heights_in (accepted_answer s j a)
