@@ -49,7 +49,7 @@ static void random_sheet(uint8_t *sheet) {
 static uint32_t random_shield(uint32_t enclosure) {
     if (enclosure == 1)
         return from_to(1, 2000);
-    return enclosure == 2 ? from_to(300, 700) : from_to(1, 1000);
+    return from_to(1, enclosure == 2 ? 700 : 1000);
 }
 
 /* Loads as on real sites more often than at the ends of the ranges, so that verdicts of both kinds come. */

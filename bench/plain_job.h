@@ -62,7 +62,7 @@ static inline int height_stands(const Job *j) {
 static inline int shield_stands(const Job *j) {
     if (j->enclosure == OPEN)
         return between(j->shield, 1, 2000);
-    return j->enclosure == HALF_CLOSED ? between(j->shield, 300, 700) : between(j->shield, 1, 1000);
+    return between(j->shield, 1, j->enclosure == HALF_CLOSED ? 700 : 1000);
 }
 
 /* Refusals 3, 4 and 5, or 0. */
