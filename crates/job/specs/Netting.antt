@@ -13,7 +13,7 @@ abbrev pub shield_stood : ℕ → ℕ → Bool
 shield_stood enclosure shield =
     cond (eqb enclosure 1) (within 1 2000 shield) (cond (eqb enclosure 2) (within 300 700 shield) (within 1 1000 shield))
 
--- whether each field stood, in their order: every other as it stands
+-- whether each field stood, in their order: 18, which is at place 17 of the row, by that range, every other as it stands
 unfoldable pub ranges_before : Job → List Bool
 ranges_before j = set (ranges j) 17 (shield_stood j.enclosure j.shield)
 
