@@ -27,6 +27,14 @@
  *     if (rembilung_refused(read)) ..
  *     rows[REMBILUNG_NUMBERS_OF(2) + REMBILUNG_BAY]   the bay of the third row, where read is at least 3
  *
+ * Whether a book holds a job with a failed check, rembilung_first_failing says: it judges the rows in their order and
+ * stops at the first that has one.
+ *
+ *     uint32_t first[REMBILUNG_FIRST_FAILING_NUMBERS];
+ *     uint64_t done = rembilung_first_failing(sheet, REMBILUNG_SHEET_BYTES, book, book_len, first);
+ *     if (rembilung_refused(done)) ..
+ *     first[REMBILUNG_FIRST_FAILING_ROW] == REMBILUNG_NONE    no row fails a check
+ *
  * Where a number is known only between two reports, as the ground's strength from two trial pits or the wind as a band,
  * rembilung_between tells of a mild and a harsh job what holds of every job between them:
  *
@@ -45,8 +53,8 @@
  *
  * Every input is met by an answer or a refusal: nothing has to be tested before a call.
  *
- * Buffers. A pointer and the length after it are one lent buffer, and so are 25 numbers, or 13, or 14; nothing else is
- * read or written. The length of rows is in numbers, 25 a row: REMBILUNG_NUMBERS_OF(rows). A pointer is never null, not
+ * Buffers. A pointer and the length after it are one lent buffer, and so are 25 numbers, or 13, or 14, or 2; nothing else
+ * is read or written. The length of rows is in numbers, 25 a row: REMBILUNG_NUMBERS_OF(rows). A pointer is never null, not
  * even where its length is 0. A buffer that is written shares no byte with another of the call. Bytes may stand at any
  * address; numbers stand where C puts a uint32_t. What a call does not write, it only reads.
  *
@@ -87,13 +95,15 @@ extern "C" {
 /* How many checks there are, and what rembilung_between answers: a number for each, then two heights. */
 #define REMBILUNG_CHECKS 12
 #define REMBILUNG_BETWEEN_NUMBERS 14
+/* What rembilung_first_failing answers: the row and how many were judged. */
+#define REMBILUNG_FIRST_FAILING_NUMBERS 2
 /* A load cell's records: bytes in one, records in a run at most, records that a greatest push is taken over at most. */
 #define REMBILUNG_CELL_RECORD 8
 #define REMBILUNG_CELL_RECORDS_MOST 8000
 #define REMBILUNG_CELL_W_MOST 500
 /* No output is longer: with a buffer of this size refusal 8 never comes of load cells. */
 #define REMBILUNG_CELL_OUTPUT_MOST 32000
-/* "None" in an answer of numbers, which no height comes near. */
+/* "None" in an answer of numbers, which no height and no row comes near. */
 #define REMBILUNG_NONE UINT32_C(4294967295)
 
 /* The numbers of a scaffold job in their order: numbers[REMBILUNG_BAY] is the bay. Fields count from 1 in a refusal, so
@@ -162,7 +172,7 @@ enum rembilung_support_number {
  *     8        a buffer is too short                                         the length that it needs: bytes, or rows
  *     9        the book ends inside or before a number, or a number is not   offset of that number's first byte, or of the
  *              in its shortest form or above 4,294,967,295, or bytes follow  first byte too many
- *              its last number
+ *              its last number; a book of no bytes holds no rows
  *     10       a book of more than 200 rows                                  the number of rows
  *     11       a row of a book that 3, 4 or 5 would refuse as a scaffold     the lowest such row, from 0
  *              job; so a row that begins with 3
@@ -251,7 +261,8 @@ uint64_t rembilung_read_job(const uint8_t *file, size_t file_len,
 uint64_t rembilung_write_book(const uint32_t *rows, size_t numbers,
                               uint8_t *book, size_t book_len);
 
-/* Reads a book into lent rows, of which there are numbers / 25. What is read writes back as the same bytes.
+/* Reads a book into lent rows, of which there are numbers / 25. A book of no bytes at all is an empty season: no rows.
+ * What is read writes back as the same bytes, but for that one: no rows are written as one byte, 00.
  * Returns the number of rows, from 0 to 200, and writes that many; what stands after them is as it was. Or a refusal: 9 at
  * 0 where the count itself is damaged, 10 as soon as the count is read, whatever follows, then 9 of the numbers and what
  * follows them, then 11, then 8 with the number of rows. */
@@ -285,6 +296,21 @@ uint64_t rembilung_between(const uint8_t *sheet, size_t sheet_len,
                            const uint32_t mild[REMBILUNG_NUMBERS],
                            const uint32_t harsh[REMBILUNG_NUMBERS],
                            uint32_t answer[REMBILUNG_BETWEEN_NUMBERS]);
+
+/* Where the two numbers stand in the answer of rembilung_first_failing. */
+enum rembilung_first_failing_number {
+    REMBILUNG_FIRST_FAILING_ROW,   /* the first row with a failed check, from 0, or REMBILUNG_NONE */
+    REMBILUNG_FIRST_FAILING_JUDGED /* how many rows were judged: that row and those before it; every row with none */
+};
+
+/* The first row of a book that has a failed check under a sheet: a verdict of 2 among its twelve. The rows are judged in
+ * their order and no further than that one; it is the same row as if all were judged.
+ * Returns 2, or a refusal with the answer as it was, the first of 1, 2, then the whole book's as rembilung_read_book has
+ * them: 9 of a damaged count, 10, 9, 11. So a row that 11 refuses is named although one before it has a failed check. A book
+ * of no bytes, or of no rows, has none that fails, and none is judged. */
+uint64_t rembilung_first_failing(const uint8_t *sheet, size_t sheet_len,
+                                 const uint8_t *book, size_t book_len,
+                                 uint32_t answer[REMBILUNG_FIRST_FAILING_NUMBERS]);
 
 /* The first byte of a load cell's record. Three zero bytes follow it, then newtons as an IEEE 754 single, low byte first. */
 enum rembilung_cell_kind {
