@@ -45,6 +45,11 @@ first_refuses (Err s) x e = cc
 pub first_nothing : (a b : Examined) → first a b ≡ nothing → (a ≡ nothing) × (b ≡ nothing)
 first_nothing a b e = first_answers a b e
 
+-- of three one after the other, it is the same which two are joined
+pub first_first : {A : Type 0} (a b : Examined) (rest : Result A Refusal) → first (first a b) rest ≡ first a (first b rest)
+first_first (Ok none) b rest = refl
+first_first (Err r) b rest = refl
+
 -- where nothing is refused, the test has passed
 pub unless_pass : {A : Type 0} (b : Bool) (r : Refusal) (rest : Result A Refusal) (x : A) → unless b r rest ≡ Ok x → T b × (rest ≡ Ok x)
 unless_pass true r rest x e = (tt, e)

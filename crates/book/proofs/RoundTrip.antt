@@ -2,7 +2,7 @@
 -- Assumes nothing.
 use Prim.Native.Nat.{ℕ, ◌+◌, ◌*◌, ◌≤◌, ◌<◌}
 use mathlib.Core.Path.{◌≡◌, ◌∙◌, refl, sym, ap}
-use mathlib.Core.List.{List, ◌++◌}
+use mathlib.Core.List.{List, [], ◌++◌}
 use native.Mathlib.Omega.{arith}
 use lib.ListN.{length, take, drop, length-append}
 use lib.Seq.{take-append_seam, take_at, length-take-le}
@@ -11,39 +11,45 @@ use Rattle.basis.specs.Refusal.{nothing, first}
 use Rattle.basis.proofs.Rows.{unrefused}
 use Rattle.groups.specs.Encode.{groups, encode, encode_all}
 use Rattle.groups.specs.Decode.{Bytes}
-use Rattle.groups.proofs.Encode.{cap, encode_short}
+use Rattle.groups.proofs.Encode.{cap, encode_short, encode_some}
 use Rattle.jobfile.specs.Kind.{scaffold, examination}
 use Rattle.jobfile.specs.Marked.{longest, files}
 use Rattle.jobfile.proofs.BothKinds.{told as job-told}
 use Rattle.basis.proofs.Refusals.{first_answers}
 use Rattle.jobfile.proofs.Sizes.{file_short}
-use Rattle.book.specs.Columns.{joined}
-use Rattle.book.specs.Book.{rows_most, greatest_length, row_count, columns, book_of, row}
+use Rattle.book.specs.Columns.{series, joined, across, turned}
+use Rattle.book.specs.Book.{rows_most, greatest_length, row_count, columns, book_of, in_full, row}
 use Rattle.book.specs.Read.{count_in, rows_in, read_refusal, rows_read, rows_left}
 use Rattle.book.specs.Write.{whole_book, write_refusal, book_written, book_left}
-use Rattle.book.specs.Rows.{AllStand, Holds, Reads, Writes}
+use Rattle.book.specs.Rows.{AllStand, Stands, Reads, Writes}
 use Rattle.book.specs.RoundTrip.{Accepted, RoundTrip}
 use Rattle.book.proofs.Columns.{joined_long, joined_part}
 use Rattle.book.proofs.Lengths.{sum, sum_most, sum_even, joined_bytes, turned_bytes}
 use Rattle.book.proofs.Narrow.{rows_joined, row_long, stand_narrow}
-use Rattle.book.proofs.Held.{held_count, held_rows, book_take, row_take}
+use Rattle.book.proofs.Held.{full_itself, held_count, held_rows, book_take, row_take}
 use Rattle.book.proofs.Rows.{read_none, write_none, told}
 use Rattle.book.proofs.Answered.{read_done, write_done}
 
 -- ---- Reading
 
-pub holding : (n : ℕ) (rows : List ℕ) → Accepted n rows → Holds (book_of n rows) n rows
-holding n rows a = record { is = refl; few = a.few; long = a.long; narrow = stand_narrow n rows a.long a.stand }
+-- a book of rows has bytes, the count's at least
+pub book_full : (n : ℕ) (rows : List ℕ) → in_full (book_of n rows) ≡ book_of n rows
+unfolding book_of encode_all
+book_full n rows = full_itself (book_of n rows) (omega (arith, encode_some n, length-append (encode n) (encode_all (columns n rows))))
+
+pub standing : (n : ℕ) (rows : List ℕ) → Accepted n rows → Stands (book_of n rows) n rows
+standing n rows a =
+    record { holds = record { is = book_full n rows; few = a.few; long = a.long; narrow = stand_narrow n rows a.long a.stand }; stand = a.stand }
 
 -- what reading answers and leaves where it is not refused
 pub read_answer : (book out : List ℕ) (n : ℕ) (rows : List ℕ) → Reads book out n rows → (rows_read book out ≡ Ok n) × (rows_left book out ≡ rows ++ drop (25 * n) out)
 read_answer book out n rows a =
-    let h = a.holds in
+    let h = a.stands.holds in
     rw (held_count book n rows h, held_rows book n rows h) at (read_done book out (read_none book out n rows a))
 
 rows_back : (n : ℕ) (rows out : List ℕ) → Accepted n rows → n ≤ row_count out
     → (rows_read (book_of n rows) out ≡ Ok n) × (rows_left (book_of n rows) out ≡ rows ++ drop (25 * n) out)
-rows_back n rows out a l = read_answer (book_of n rows) out n rows (record { holds = holding n rows a; stand = a.stand; room = l })
+rows_back n rows out a l = read_answer (book_of n rows) out n rows (record { stands = standing n rows a; room = l })
 
 -- and where it answers a number of rows
 pub read_reads : (book out : List ℕ) (n : ℕ) → Bytes book → rows_read book out ≡ Ok n → (rows : List ℕ) × Reads book out n rows
@@ -52,23 +58,28 @@ read_reads book out n w e =
     let a = first_answers (read_refusal book out) (Ok (count_in book)) e in
     let m : count_in book ≡ n = cc (a.1) in
     let u = unrefused (told.reading book out w) a.0 in
-    let c : u.0 ≡ n = sym (held_count book u.0 u.1.0 u.1.1.holds) ∙ m in
+    let c : u.0 ≡ n = sym (held_count book u.0 u.1.0 u.1.1.stands.holds) ∙ m in
     (u.1.0, rw c at u.1.1)
 
 pub rows_read_lem : (book out : List ℕ) (n : ℕ) (rows : List ℕ) → Reads book out n rows → take (25 * n) (rows_left book out) ≡ rows
-rows_read_lem book out n rows a = rw (read_answer book out n rows a).1 (take_at rows (drop (25 * n) out) (25 * n) a.holds.long)
+rows_read_lem book out n rows a = rw (read_answer book out n rows a).1 (take_at rows (drop (25 * n) out) (25 * n) a.stands.holds.long)
 
-reads_accepted : (book out : List ℕ) (n : ℕ) (rows : List ℕ) → Reads book out n rows → Accepted n rows
-reads_accepted book out n rows a = record { few = a.holds.few; long = a.holds.long; stand = a.stand }
+stands_accepted : {book : List ℕ} (n : ℕ) (rows : List ℕ) → Stands book n rows → Accepted n rows
+stands_accepted n rows a = record { few = a.holds.few; long = a.holds.long; stand = a.stand }
 
 book_back : (book out : List ℕ) (n : ℕ) → Bytes book → rows_read book out ≡ Ok n →
     (let rows = take (25 * n) (rows_left book out) in
-    Accepted n rows × (book_of n rows ≡ book) × (rows_left book out ≡ rows ++ drop (25 * n) out))
+    Accepted n rows × (book_of n rows ≡ in_full book) × (rows_left book out ≡ rows ++ drop (25 * n) out))
 book_back book out n w e =
     let u = read_reads book out n w e in
     let rows = u.0 in
     let a = u.1 in
-    rw (rows_read_lem book out n rows a) (reads_accepted book out n rows a, sym a.holds.is, (read_answer book out n rows a).1)
+    rw (rows_read_lem book out n rows a) (stands_accepted n rows a.stands, sym a.stands.holds.is, (read_answer book out n rows a).1)
+
+no_bytes : (out : List ℕ) → (rows_read [] out ≡ Ok 0) × (rows_left [] out ≡ out)
+unfolding in_full book_of encode_all encode groups columns turned joined across series
+no_bytes out =
+    read_answer [] out 0 [] (record { stands = record { holds = record { is = refl; few = omega arith; long = refl; narrow = tt }; stand = λ r l. absurd (omega arith) }; room = omega arith })
 
 -- ---- Writing
 
@@ -110,20 +121,20 @@ rewritten n rows out a l =
     let b : whole_book rows ≡ book_of n rows = unfold whole_book in rw c in
     rw b at (write_answer rows out (record { few = rw c a.few; stand = rw c a.stand; room = rw b l }))
 
-read_writes : (book out back : List ℕ) (n : ℕ) → Bytes book → rows_read book out ≡ Ok n → length book ≤ length back →
+read_writes : (book out back : List ℕ) (n : ℕ) → Bytes book → rows_read book out ≡ Ok n → length (in_full book) ≤ length back →
     (let rows = take (25 * n) (rows_left book out) in
-    (book_written rows back ≡ Ok (length book)) × (book_left rows back ≡ book ++ drop (length book) back))
+    (book_written rows back ≡ Ok (length (in_full book))) × (book_left rows back ≡ in_full book ++ drop (length (in_full book)) back))
 read_writes book out back n w e l =
     let u = read_reads book out n w e in
     let rows = u.0 in
     let a = u.1 in
-    let b : book_of n rows ≡ book = sym a.holds.is in
-    rw (rows_read_lem book out n rows a) (rw b at (rewritten n rows back (reads_accepted book out n rows a) (rw b l)))
+    let b : book_of n rows ≡ in_full book = sym a.stands.holds.is in
+    rw (rows_read_lem book out n rows a) (rw b at (rewritten n rows back (stands_accepted n rows a.stands) (rw b l)))
 
 one_list : (n m : ℕ) (rows others : List ℕ) → Accepted n rows → Accepted m others → book_of n rows ≡ book_of m others → (n ≡ m) × (rows ≡ others)
 one_list n m rows others a b e =
-    let g = holding n rows a in
-    let h = holding m others b in
+    let g = (standing n rows a).holds in
+    let h = (standing m others b).holds in
     (sym (held_count _ n rows g) ∙ ap count_in e ∙ held_count _ m others h, sym (held_rows _ n rows g) ∙ ap rows_in e ∙ held_rows _ m others h)
 
 -- the same of whole rows, whatever follows them
@@ -192,6 +203,7 @@ enough rows out l s h = (write_answer rows out (record { few = l; stand = s; roo
 pub round_trip : RoundTrip
 round_trip =
     record {
+      no_bytes = no_bytes;
       rows_back = rows_back;
       book_back = book_back;
       written_reads = written_reads;

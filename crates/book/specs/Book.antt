@@ -1,6 +1,6 @@
 -- Document 02, request 3: a book is a row count (0 to 200) and then all first numbers, all second numbers, to the 25th, each in the job file's groups. Rows stand one after the other, 25 numbers each.
 -- Assumes nothing.
-use Rattle.std.specs.Prelude.{ℕ, ◌*◌, ◌/◌, Bool, List, ◌∷◌, leb, eqb, is_ok, length, take, drop}
+use Rattle.std.specs.Prelude.{ℕ, ◌*◌, ◌/◌, Bool, List, [], ◌∷◌, leb, eqb, is_ok, length, take, drop}
 use Rattle.basis.specs.Refusal.{Examined, nothing, unless}
 use Rattle.basis.specs.Search.{first_fail}
 use Rattle.basis.specs.declared.Refusal.TheVariants.{BookCount, BookRow}
@@ -30,6 +30,11 @@ rows_of n numbers = turned n 25 numbers
 -- the book of n rows: the count, then the columns
 unfoldable pub book_of : ℕ → List ℕ → List ℕ
 book_of n rows = encode_all (n ∷ columns n rows)
+
+-- a book in full: no bytes at all are an empty season, whose book is the count 0; every other is its bytes (document 02, request 9)
+unfoldable pub in_full : List ℕ → List ℕ
+in_full [] = 0 ∷ []
+in_full (b ∷ rest) = b ∷ rest
 
 -- row r
 unfoldable pub row : List ℕ → ℕ → List ℕ

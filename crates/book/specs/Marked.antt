@@ -7,8 +7,8 @@ use Rattle.basis.specs.Writing.{written_values}
 use Rattle.job.specs.JobJ.{numbers_J}
 use Rattle.jobfile.specs.Marked.{files}
 use Rattle.book.specs.Columns.{series, joined, across, turned}
-use Rattle.book.specs.Book.{row_count, columns, rows_of, book_of, row, good, good_at, first_bad}
-use Rattle.book.specs.Read.{count_in, numbers_due, columns_in, rows_in, damage_in, read_refusal, rows_read, rows_left}
+use Rattle.book.specs.Book.{row_count, columns, rows_of, book_of, in_full, row, good, good_at, first_bad}
+use Rattle.book.specs.Read.{count_in, numbers_due, columns_in, rows_in, damage_in, book_refusal, read_refusal, rows_read, rows_left}
 use Rattle.book.specs.Write.{whole_book, write_refusal, book_written, book_left}
 
 -- a single row, unlike J in every number
@@ -32,9 +32,9 @@ written rows room = written_values (book_written rows (replicate room 0))
 unfoldable pub rows : List Row
 unfolding numbers_J numbers_K two_rows
 rows =
-    -- no rows are byte 00, and the other way round; no bytes are no book
+    -- no rows are byte 00, and the other way round; no bytes at all are no rows too, and leave what was lent
     case (book_of 0 [] ++ read (0 ∷ []) 0) (0 ∷ 0 ∷ [])
-    ∷ case (read [] 0) (9 ∷ 0 ∷ [])
+    ∷ case (read [] 0 ++ rows_left [] (9 ∷ [])) (0 ∷ 9 ∷ [])
     -- J alone: 01, and then the bytes of its file
     ∷ case (book_of 1 numbers_J)
     (1 ∷ 1 ∷ 1 ∷ 105 ∷ 150 ∷ 1 ∷ 180 ∷ 1 ∷ 2 ∷ 184 ∷ 23 ∷ 3 ∷ 4 ∷ 2 ∷ 184 ∷ 23 ∷ 136 ∷ 39 ∷ 0 ∷ 172 ∷ 2 ∷ 172 ∷ 2 ∷ 232 ∷ 7 ∷ 1 ∷ 200 ∷ 1 ∷ 1 ∷ 240 ∷ 1 ∷ 1 ∷ 192 ∷ 62 ∷ 4 ∷ 200 ∷ 1 ∷ 208 ∷ 15 ∷ [])
@@ -66,5 +66,5 @@ rows =
 
 -- on an `unfolding` line: all that reading and writing books compute
 unfoldable pub books : Unit {0}
-unfolding files series joined across turned row_count columns rows_of book_of row good good_at first_bad first_fail count_in numbers_due columns_in rows_in damage_in read_refusal rows_read rows_left whole_book write_refusal book_written book_left
+unfolding files series joined across turned row_count columns rows_of book_of in_full row good good_at first_bad first_fail count_in numbers_due columns_in rows_in damage_in book_refusal read_refusal rows_read rows_left whole_book write_refusal book_written book_left
 books = tt
