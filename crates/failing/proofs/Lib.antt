@@ -1,0 +1,4 @@
+pub mod Place
+pub mod Loop
+pub mod Told
+pub mod Marked
