@@ -36,7 +36,7 @@ use Rattle.between.proofs.Throughout.{throughout}
 use Rattle.between.proofs.Numbers as Numbers
 use Rattle.between.proofs.Numbers.{check_number, mild_number, harsh_number, one_of, number_1, number_2, number_3}
 use Rattle.between.proofs.Fields as Order-told
-use Rattle.rembilung.specs.Call.{entries_of, sheet_refusal, refusal_in, between_told, fourteen, told_left, between_code, between_buffer}
+use Rattle.rembilung.specs.Call.{entries_of, sheet_refusal, refusal_in, between_told, told_count, told_left, between_code, between_buffer}
 use Rattle.rembilung.specs.Table.{Refuses, SheetStands}
 use Rattle.rembilung.specs.Between.{BetweenRow, Ends, Lies, verdict_at, height_of, Says, Between}
 use Rattle.rembilung.specs.Header.{Halves}
@@ -73,10 +73,10 @@ unfolding of_harsh
 of_harsh_none e = rw e refl
 
 -- an answer is refused as what it refuses
-in_refused : {A : Type 0} (answer : Result A Refusal) (n p : ℕ) → Refused answer n p → Refused (refusal_in answer) n p
+pub in_refused : {A : Type 0} (answer : Result A Refusal) (n p : ℕ) → Refused answer n p → Refused (refusal_in answer) n p
 in_refused answer n p r = record { refusal = r.refusal; is = rw r.is refl; number_is = r.number_is; place_is = r.place_is }
 
-unless_first : {A : Type 0} (b : Bool) (r : Refusal) (e : Examined) (rest : Result A Refusal) → unless b r (first e rest) ≡ first (unless b r e) rest
+pub unless_first : {A : Type 0} (b : Bool) (r : Refusal) (e : Examined) (rest : Result A Refusal) → unless b r (first e rest) ≡ first (unless b r e) rest
 unless_first true r e rest = refl
 unless_first false r e rest = refl
 
@@ -148,7 +148,7 @@ module _ (sheet mild harsh : List ℕ) where
   unfolding between_code between_buffer
   refused before n p r =
       let f = row n p r in
-      refuses (fourteen (between_told sheet mild harsh)) before (told_left (between_told sheet mild harsh) before) (λ x e. rw e (refl, refl)) n p f
+      refuses (told_count 14 (between_told sheet mild harsh)) before (told_left numbers (between_told sheet mild harsh) before) (λ x e. rw e (refl, refl)) n p f
 
   returns : Ends sheet mild harsh → between_code sheet mild harsh ≡ 14
   unfolding between_code

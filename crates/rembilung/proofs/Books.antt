@@ -1,17 +1,19 @@
 -- What is asked of books, proved: from the table's rows and the round trip of crate book.
 -- Assumes nothing.
-use Prim.Native.Nat.{ℕ, ◌*◌, ◌/◌, ◌≤◌}
+use Prim.Native.Nat.{ℕ, ◌*◌, ◌/◌, ◌≤◌, ◌<◌}
 use mathlib.Core.Path.{◌≡◌, ◌∙◌, sym}
-use mathlib.Core.List.{List, ◌++◌}
+use mathlib.Core.List.{List, [], ◌++◌}
 use mathlib.Core.Logic.{⊎_elim}
 use native.Mathlib.Omega.{arith}
+use lib.Dec.{lit<}
 use lib.ListN.{length, take, drop}
 use lib.Seq.{take-append_seam}
 use Rattle.basis.proofs.Rows.{exactly}
 use Rattle.groups.specs.Decode.{Bytes}
-use Rattle.book.specs.Book.{rows_most, row_count}
+use Rattle.book.specs.Book.{rows_most, row_count, in_full}
 use Rattle.book.specs.Read.{rows_read, rows_left}
 use Rattle.book.specs.Write.{whole_book, book_written, book_left}
+use Rattle.book.specs.Rows as Book
 use Rattle.book.specs.Rows.{ReadRow, Reads, WriteRow, Writes}
 use Rattle.book.proofs.Rows.{told}
 use Rattle.book.proofs.Answered as Answered
@@ -48,6 +50,13 @@ module _ (rows out : List ℕ) where
 
 -- ---- Reading
 
+-- the refusals of a book by itself are above 8
+past_8 : {book : List ℕ} (n p : ℕ) → Book.Row book n p → 8 < n
+past_8 n p (Book.Row.no_count d) = lit< tt
+past_8 n p (Book.Row.count m rest s u) = lit< tt
+past_8 n p (Book.Row.damaged m rest s u i q r) = lit< tt
+past_8 n p (Book.Row.row_bad m rows h r b) = lit< tt
+
 module _ (book out : List ℕ) (w : Bytes book) where
   read_refused : (n p : ℕ) → ReadRow book out n p → Refuses n p (read_book_code book out) out (read_book_buffer book out)
   unfolding read_book_code read_book_buffer
@@ -60,17 +69,14 @@ module _ (book out : List ℕ) (w : Bytes book) where
   read_halves : Halves (read_book_code book out) (ReadRow book out) (SomeRows book out)
   read_halves =
       halves (told.reading book out w) (read_book_code book out) (λ n p a. (read_refused n p a).code)
-      (λ a. omega (arith, (read_answered a.0 a.1.0 a.1.1).0, a.1.1.holds.few))
+      (λ a. omega (arith, (read_answered a.0 a.1.0 a.1.1).0, a.1.1.stands.holds.few))
 
   read_never_8 : book_rows_most ≤ row_count out → read_book_code book out / 4294967296 ≡ 8 → ⊥
   read_never_8 l e = ⊎_elim (λ a. omega (arith, read_halves.answered a)) (λ r. row r.0 r.1.0 r.1.1) (told.reading book out w).every
     where
       row : (n p : ℕ) → ReadRow book out n p → ⊥
-      row n p (ReadRow.no_count d) = omega (arith, (read_halves.refused 9 0 (ReadRow.no_count d)).0)
-      row n p (ReadRow.count m rest s u) = omega (arith, (read_halves.refused 10 _ (ReadRow.count m rest s u)).0)
-      row n p (ReadRow.damaged m rest s u i q r) = omega (arith, (read_halves.refused 9 _ (ReadRow.damaged m rest s u i q r)).0)
-      row n p (ReadRow.row_bad m rows h r b) = omega (arith, (read_halves.refused 11 _ (ReadRow.row_bad m rows h r b)).0)
-      row n p (ReadRow.short m rows h s u) = omega (arith, h.few)
+      row n p (ReadRow.of_book m q r) = omega (arith, (read_halves.refused m q (ReadRow.of_book m q r)).0, past_8 m q r)
+      row n p (ReadRow.short m rows a u) = omega (arith, a.holds.few)
 
 -- ---- Both
 
@@ -83,14 +89,18 @@ rows_back rows out back e l =
     let d = round_trip.written_reads rows out back (length (whole_book rows)) (write_answer rows out a).0 l in
     rw (write_answered rows out a).0 (returned d.0, d.1)
 
-book_back : (book out back : List ℕ) → Bytes book → read_book_code book out / 4294967296 ≡ 0 → length book ≤ length back →
+book_back : (book out back : List ℕ) → Bytes book → read_book_code book out / 4294967296 ≡ 0 → length (in_full book) ≤ length back →
     (let rows = take (25 * read_book_code book out) (read_book_buffer book out) in
-    (write_book_code rows back ≡ length book) × (write_book_buffer rows back ≡ book ++ drop (length book) back))
+    (write_book_code rows back ≡ length (in_full book)) × (write_book_buffer rows back ≡ in_full book ++ drop (length (in_full book)) back))
 unfolding read_book_buffer write_book_code write_book_buffer
 book_back book out back w e l =
     let a = (read_halves book out w).only e in
     let d = round_trip.read_writes book out back a.0 w (read_answer book out a.0 a.1.0 a.1.1).0 l in
     rw (read_answered book out w a.0 a.1.0 a.1.1).0 (returned d.0, d.1)
+
+no_bytes : (out : List ℕ) → (read_book_code [] out ≡ 0) × (read_book_buffer [] out ≡ out)
+unfolding read_book_code read_book_buffer
+no_bytes out = let d = round_trip.no_bytes out in (returned d.0, d.1)
 
 -- the book that was written
 written : (rows out : List ℕ) → Writes rows out → take (write_book_code rows out) (write_book_buffer rows out) ≡ whole_book rows
@@ -121,6 +131,7 @@ books =
       read_exactly = λ book out w. exactly (told.reading book out w);
       rows_back = rows_back;
       book_back = book_back;
+      no_bytes = no_bytes;
       one_list = one_list;
       write_never_8 = write_never_8;
       read_never_8 = read_never_8;

@@ -107,7 +107,7 @@ demand2 = record { reported = reported scaffold; support_reported = reported sup
 -- ---- Demand 3
 
 module _ (sheet file out : List ℕ) (w : Bytes file) (ns : List ℕ) (a : Answers scaffold sheet file out ns) where
-  verdict_is : (i : ℕ) → i < checks → verdict_shown (call_buffer sheet file out) i ≡ get_or (verdicts (job_of ns) (entries_of sheet)) i 0
+  pub verdict_is : (i : ℕ) → i < checks → verdict_shown (call_buffer sheet file out) i ≡ get_or (verdicts (job_of ns) (entries_of sheet)) i 0
   verdict_is i l = rw (call_answered sheet file out w scaffold ns a).1 (verdict_shown_lem (job_of ns) (entries_of sheet) _ i l)
 
   height_is : height_shown (call_buffer sheet file out) ≡ stability (job_of ns) (entries_of sheet)

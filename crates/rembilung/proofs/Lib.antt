@@ -10,3 +10,4 @@ pub mod Marked
 pub mod Between
 pub mod Cells
 pub mod Netting
+pub mod Failing

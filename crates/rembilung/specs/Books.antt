@@ -1,9 +1,9 @@
 -- What document 02, request 3, asks of books, about what the two exported calls return and leave; the facts are those of book/specs/Rows.antt.
 -- Assumes nothing.
-use Rattle.std.specs.Prelude.{ℕ, ◌*◌, ◌/◌, ◌≤◌, ◌≡◌, List, ◌++◌, length, take, drop}
+use Rattle.std.specs.Prelude.{ℕ, ◌*◌, ◌/◌, ◌≤◌, ◌≡◌, List, [], ◌++◌, length, take, drop}
 use Rattle.basis.specs.Rows.{Exactly}
 use Rattle.groups.specs.Decode.{Bytes}
-use Rattle.book.specs.Book.{row_count}
+use Rattle.book.specs.Book.{row_count, in_full}
 use Rattle.book.specs.Write.{whole_book}
 use Rattle.book.specs.Rows.{ReadRow, Reads, WriteRow, Writes}
 use Rattle.rembilung.specs.Call.{write_book_code, write_book_buffer, read_book_code, read_book_buffer}
@@ -34,10 +34,11 @@ pub record Books : Type 0 where
   pub rows_back : (rows out back : List ℕ) → write_book_code rows out / 4294967296 ≡ 0 → row_count rows ≤ row_count back →
       (let book = take (write_book_code rows out) (write_book_buffer rows out) in
       (read_book_code book back ≡ row_count rows) × (read_book_buffer book back ≡ take (25 * row_count rows) rows ++ drop (25 * row_count rows) back))
-  -- a book that was read writes back, from the rows read
-  pub book_back : (book out back : List ℕ) → Bytes book → read_book_code book out / 4294967296 ≡ 0 → length book ≤ length back →
+  -- a book that was read writes back, from the rows read; but no bytes at all are read as no rows, which are written as the count 0
+  pub book_back : (book out back : List ℕ) → Bytes book → read_book_code book out / 4294967296 ≡ 0 → length (in_full book) ≤ length back →
       (let rows = take (25 * read_book_code book out) (read_book_buffer book out) in
-      (write_book_code rows back ≡ length book) × (write_book_buffer rows back ≡ book ++ drop (length book) back))
+      (write_book_code rows back ≡ length (in_full book)) × (write_book_buffer rows back ≡ in_full book ++ drop (length (in_full book)) back))
+  pub no_bytes : (out : List ℕ) → (read_book_code [] out ≡ 0) × (read_book_buffer [] out ≡ out)
   -- different rows have different books: where the same book was written, the rows are the same
   pub one_list : (rows others out back : List ℕ) → write_book_code rows out / 4294967296 ≡ 0 → write_book_code others back / 4294967296 ≡ 0
       → take (write_book_code rows out) (write_book_buffer rows out) ≡ take (write_book_code others back) (write_book_buffer others back)

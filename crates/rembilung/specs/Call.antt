@@ -23,6 +23,8 @@ use Rattle.report.specs.Report.{report}
 use Rattle.between.specs.Between as Between
 use Rattle.between.specs.declared.Between.{Between as Told}
 use Rattle.cells.specs.Cells.{cells_written, cells_left}
+use Rattle.failing.specs.Failing as Failing
+use Rattle.failing.specs.declared.FirstFailing.{FirstFailing}
 use Rattle.rembilung.specs.Code.{written_code}
 
 -- the 251 entries of 502 bytes, each low byte first
@@ -122,21 +124,21 @@ read_book_buffer book out = rows_left book out
 abbrev pub between_told : List ℕ → List ℕ → List ℕ → Result Told Refusal
 between_told sheet mild harsh = unless (eqb (length sheet) 502) (SheetLength (length sheet)) (Between.answer (entries_of sheet) (Job.job_of mild) (Job.job_of harsh))
 
--- its fourteen numbers are written, or none
-abbrev pub fourteen : Result Told Refusal → Result ℕ Refusal
-fourteen (Ok b) = Ok 14
-fourteen (Err refusal) = Err refusal
+-- the n numbers of what is told are written, or none
+abbrev pub told_count : {A : Type 0} → ℕ → Result A Refusal → Result ℕ Refusal
+told_count n (Ok told) = Ok n
+told_count n (Err refusal) = Err refusal
 
-abbrev pub told_left : Result Told Refusal → List ℕ → List ℕ
-told_left (Ok b) before = Between.numbers b
-told_left (Err refusal) before = before
+abbrev pub told_left : {A : Type 0} → (A → List ℕ) → Result A Refusal → List ℕ → List ℕ
+told_left numbers (Ok told) before = numbers told
+told_left numbers (Err refusal) before = before
 
 -- the call on two ends returns 14 alone, or the refusal and its place; the numbers afterwards
 unfoldable pub between_code : List ℕ → List ℕ → List ℕ → ℕ
-between_code sheet mild harsh = written_code (fourteen (between_told sheet mild harsh))
+between_code sheet mild harsh = written_code (told_count 14 (between_told sheet mild harsh))
 
 unfoldable pub between_buffer : List ℕ → List ℕ → List ℕ → List ℕ → List ℕ
-between_buffer sheet mild harsh before = told_left (between_told sheet mild harsh) before
+between_buffer sheet mild harsh before = told_left Between.numbers (between_told sheet mild harsh) before
 
 -- the call on load cells returns the output's length alone, or the refusal and its place; the buffer afterwards
 unfoldable pub cells_code : List ℕ → ℕ → List ℕ → ℕ
@@ -144,3 +146,14 @@ cells_code records w out = written_code (cells_written records w out)
 
 unfoldable pub cells_buffer : List ℕ → ℕ → List ℕ → List ℕ
 cells_buffer records w out = cells_left records w out
+
+-- what is told of a book under a sheet: 1 with the sheet's length in bytes, or what is answered under its entries
+abbrev pub first_told : List ℕ → List ℕ → Result FirstFailing Refusal
+first_told sheet book = unless (eqb (length sheet) 502) (SheetLength (length sheet)) (Failing.answer (entries_of sheet) book)
+
+-- the call on a sheet and a book returns 2 alone, or the refusal and its place; the numbers afterwards
+unfoldable pub first_code : List ℕ → List ℕ → ℕ
+first_code sheet book = written_code (told_count 2 (first_told sheet book))
+
+unfoldable pub first_buffer : List ℕ → List ℕ → List ℕ → List ℕ
+first_buffer sheet book before = told_left Failing.numbers (first_told sheet book) before

@@ -9,3 +9,4 @@ pub mod Books
 pub mod Between
 pub mod Cells
 pub mod Netting
+pub mod Failing

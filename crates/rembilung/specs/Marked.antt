@@ -1,4 +1,4 @@
--- Marked cases of the whole call, job J's report and support S's, of the call on two ends, and of the call on load cells; of two things that are to be refused the one that comes first.
+-- Marked cases of the whole call, job J's report and support S's, of the call on two ends, of the call on load cells, and of the call on a sheet and a book; of two things that are to be refused the one that comes first.
 -- Assumes nothing.
 use Rattle.std.specs.Prelude.{ℕ, ◌/◌, ◌%◌, List, [], ◌∷◌, ◌++◌, set, replicate}
 use Rattle.basis.specs.Marked.{Row, row}
@@ -9,8 +9,9 @@ use Rattle.sheet.specs.SheetT.{sheet_T}
 use Rattle.groups.specs.Encode.{encode_all}
 use Rattle.jobfile.specs.Kind.{scaffold, support}
 use Rattle.jobfile.specs.Marked.{longest}
+use Rattle.book.specs.Book.{book_of}
 use Rattle.cells.specs.Marked.{five}
-use Rattle.rembilung.specs.Call.{call_code, between_code, cells_code}
+use Rattle.rembilung.specs.Call.{call_code, between_code, cells_code, first_code, first_buffer}
 use Rattle.rembilung.specs.Header.{report_most}
 
 -- the bytes of a sheet's entries, low byte first
@@ -31,8 +32,13 @@ between_returned sheet mild harsh = between_code (sheet_bytes sheet) mild harsh 
 unfoldable pub cells_returned : List ℕ → ℕ → ℕ → List ℕ
 cells_returned records w room = cells_code records w (replicate room 0) / 4294967296 ∷ cells_code records w (replicate room 0) % 4294967296 ∷ []
 
+-- what the call on a sheet and a book returns, and what it leaves of 7 and 8
+unfoldable pub first_returned : List ℕ → List ℕ → List ℕ
+first_returned sheet book =
+    first_code (sheet_bytes sheet) book / 4294967296 ∷ first_code (sheet_bytes sheet) book % 4294967296 ∷ first_buffer (sheet_bytes sheet) book (7 ∷ 8 ∷ [])
+
 unfoldable pub rows : List Row
-unfolding sheet_T numbers_J numbers_S longest five returned between_returned cells_returned encode_all
+unfolding sheet_T numbers_J numbers_S longest five returned between_returned cells_returned first_returned encode_all
 rows =
     -- J's report has 161 bytes
     row (returned sheet_T (encode_all numbers_J) (report_most scaffold)) (0 ∷ 161 ∷ [])
@@ -67,4 +73,11 @@ rows =
     ∷ row (cells_returned (five ++ (9 ∷ 0 ∷ 0 ∷ 0 ∷ 0 ∷ 0 ∷ 0 ∷ 0 ∷ [])) 500 0) (14 ∷ 5 ∷ [])
     ∷ row (cells_returned five 500 19) (8 ∷ 20 ∷ [])
     ∷ row (cells_returned five 500 20) (0 ∷ 20 ∷ [])
+    -- of a sheet and a book: a sheet before a book, whether of 80 or of no bytes; then a bad row behind J, which fails
+    ∷ row (first_returned [] (128 ∷ [])) (1 ∷ 0 ∷ 7 ∷ 8 ∷ [])
+    ∷ row (first_returned (set sheet_T 250 116) []) (2 ∷ 250 ∷ 7 ∷ 8 ∷ [])
+    ∷ row (first_returned sheet_T (128 ∷ [])) (9 ∷ 0 ∷ 7 ∷ 8 ∷ [])
+    ∷ row (first_returned sheet_T (book_of 2 (numbers_J ++ set numbers_J 24 99))) (11 ∷ 1 ∷ 7 ∷ 8 ∷ [])
+    ∷ row (first_returned sheet_T (book_of 1 numbers_J)) (0 ∷ 2 ∷ 0 ∷ 1 ∷ [])
+    ∷ row (first_returned sheet_T []) (0 ∷ 2 ∷ 4294967295 ∷ 0 ∷ [])
     ∷ []

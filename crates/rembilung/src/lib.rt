@@ -1,17 +1,19 @@
-// The calls of the C interface: the whole call, job files of both kinds for a host that keys numbers in, season's books, two ends, and load cells. Crate rembilung_c opens them to C.
+// The calls of the C interface: the whole call, job files of both kinds for a host that keys numbers in, season's books, two ends, load cells, and the first failing row of a book. Crate rembilung_c opens them to C.
 #![tactic(auto)]
 
 ghost use Rattle.std.specs.Prelude.{◌≡◌, eqb, length, Ok};
 ghost use Rattle.basis.specs.Refusal.{unless};
 ghost use Rattle.basis.specs.declared.Refusal.TheVariants.{SheetLength};
-ghost use Rattle.between.specs.Between.{answer};
+ghost use Rattle.between.specs.Between.{answer, numbers};
+ghost use Rattle.failing.specs.Failing.{numbers as first_numbers};
 ghost use Rattle.jobfile.specs.Kind.{scaffold, support};
 ghost use Rattle.jobfile.specs.Read.{job_in};
 ghost use Rattle.rembilung.specs.Code.{written_code};
-ghost use Rattle.rembilung.specs.Call.{entries_of, judgement_in, call_answer, call_code, call_buffer, count_in, left_in, write_code, write_buffer, read_code, read_buffer, write_book_code, write_book_buffer, read_book_code, read_book_buffer, between_told, fourteen, told_left, between_code, between_buffer, cells_code, cells_buffer};
+ghost use Rattle.rembilung.specs.Call.{entries_of, judgement_in, call_answer, call_code, call_buffer, count_in, left_in, write_code, write_buffer, read_code, read_buffer, write_book_code, write_book_buffer, read_book_code, read_book_buffer, between_told, told_count, told_left, between_code, between_buffer, cells_code, cells_buffer, first_told, first_code, first_buffer};
 
 use basis::Refusal;
-use between::{Between, NUMBERS, judge_between};
+use between::{Between, NUMBERS as BETWEEN_NUMBERS, judge_between};
+use failing::{FirstFailing, NUMBERS as FIRST_NUMBERS, first_failing};
 use formwork::judge_accepted_support;
 use job::Job;
 use jobfile::{FileJob, JOB_NUMBERS, SUPPORT_NUMBERS};
@@ -150,13 +152,13 @@ fn tell(
     sheet: &[u8],
     mild: &[u32; 25],
     harsh: &[u32; 25],
-    answer: &mut [u32; NUMBERS],
+    answer: &mut [u32; BETWEEN_NUMBERS],
 ) -> Result<usize, Refusal>
-    ensures returned { result ≡ fourteen (between_told sheet.now mild.now harsh.now) }
-    ensures buffer { answer.new ≡ told_left (between_told sheet.now mild.now harsh.now) answer.old }
+    ensures returned { result ≡ told_count 14 (between_told sheet.now mild.now harsh.now) }
+    ensures buffer { answer.new ≡ told_left numbers (between_told sheet.now mild.now harsh.now) answer.old }
 {
     *answer = judged_between(sheet, Job::from(*mild), Job::from(*harsh))?.into();
-    Ok(NUMBERS)
+    Ok(BETWEEN_NUMBERS)
 }
 
 // What holds of every job between two: 14, or a refusal with the answer as it was.
@@ -165,7 +167,7 @@ pub fn rembilung_between(
     sheet: &[u8],
     mild: &[u32; 25],
     harsh: &[u32; 25],
-    answer: &mut [u32; NUMBERS],
+    answer: &mut [u32; BETWEEN_NUMBERS],
 ) -> u64
     ensures returned { result ≡ between_code sheet.now mild.now harsh.now }
     ensures buffer { answer.new ≡ between_buffer sheet.now mild.now harsh.now answer.old }
@@ -180,4 +182,33 @@ pub fn rembilung_cells(records: &[u8], w: u32, out: &mut [u8]) -> u64
     ensures buffer { out.new ≡ cells_buffer records.now w out.old }
 {
     code_of(cells::write(records, w, out))
+}
+
+// What is told of a book under a sheet of bytes, or a refusal (1, 2, then 10, 9, 11 of the whole book).
+fn first_of(sheet: &[u8], book: &[u8]) -> Result<FirstFailing, Refusal>
+    ensures { result ≡ first_told sheet.now book.now }
+{
+    first_failing(&entries_in(sheet)?, book)
+}
+
+// Its two numbers written, or a refusal and the numbers as they were.
+fn tell_first(
+    sheet: &[u8],
+    book: &[u8],
+    answer: &mut [u32; FIRST_NUMBERS],
+) -> Result<usize, Refusal>
+    ensures returned { result ≡ told_count 2 (first_told sheet.now book.now) }
+    ensures buffer { answer.new ≡ told_left first_numbers (first_told sheet.now book.now) answer.old }
+{
+    *answer = first_of(sheet, book)?.into();
+    Ok(FIRST_NUMBERS)
+}
+
+// The first row of a book with a failed check, and how many rows were judged: 2, or a refusal with the answer as it was.
+#[tactic(auto, unfolding(crate::specs::Call::first_code, crate::specs::Call::first_buffer))]
+pub fn rembilung_first_failing(sheet: &[u8], book: &[u8], answer: &mut [u32; FIRST_NUMBERS]) -> u64
+    ensures returned { result ≡ first_code sheet.now book.now }
+    ensures buffer { answer.new ≡ first_buffer sheet.now book.now answer.old }
+{
+    code_of(tell_first(sheet, book, answer))
 }

@@ -3,7 +3,7 @@
 
 ghost use Rattle.std.specs.Prelude.{◌≡◌};
 ghost use Rattle.jobfile.specs.Kind.{scaffold, support};
-ghost use Rattle.rembilung.specs.Call.{call_code, call_buffer, write_code, write_buffer, read_code, read_buffer, write_book_code, write_book_buffer, read_book_code, read_book_buffer, between_code, between_buffer, cells_code, cells_buffer};
+ghost use Rattle.rembilung.specs.Call.{call_code, call_buffer, write_code, write_buffer, read_code, read_buffer, write_book_code, write_book_buffer, read_book_code, read_book_buffer, between_code, between_buffer, cells_code, cells_buffer, first_code, first_buffer};
 
 // The job file of a scaffold's 25 numbers: its length, or a refusal (3, 4, 5, 8).
 #[unsafe(no_mangle)]
@@ -80,4 +80,13 @@ pub extern "C" fn rembilung_cells(records: &[u8], w: u32, out: &mut [u8]) -> u64
     ensures buffer { out.new ≡ cells_buffer records.now w out.old }
 {
     rembilung::rembilung_cells(records, w, out)
+}
+
+// The first row of a book with a failed check, and how many rows were judged: 2, or a refusal (1, 2, then 10, 9, 11 of the whole book), with the answer as it was.
+#[unsafe(no_mangle)]
+pub extern "C" fn rembilung_first_failing(sheet: &[u8], book: &[u8], answer: &mut [u32; 2]) -> u64
+    ensures returned { result ≡ first_code sheet.now book.now }
+    ensures buffer { answer.new ≡ first_buffer sheet.now book.now answer.old }
+{
+    rembilung::rembilung_first_failing(sheet, book, answer)
 }
