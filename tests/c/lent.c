@@ -219,6 +219,19 @@ void expect_cells(Bytes records, uint32_t w, size_t room, Answer due) {
     }
 }
 
+void expect_first_failing(Bytes sheet, Bytes book, Answer due) {
+    Pen *from = pen_for(SHORT_BOOK, LONG_BOOK, book.length);
+    for (int way = 0; way < WAYS; way++) {
+        lend(&pens[SHEET], sheet, sheet.length, way);
+        lend(from, book, book.length, way);
+        lend(&pens[ANSWER], (Bytes){NULL, 0}, REMBILUNG_FIRST_FAILING_NUMBERS * sizeof(uint32_t), way);
+        result_is(rembilung_first_failing(pens[SHEET].at, sheet.length, from->at, book.length, (uint32_t *)pens[ANSWER].at), due);
+        holds(&pens[SHEET], sheet);
+        holds(from, book);
+        holds(&pens[ANSWER], due.written);
+    }
+}
+
 size_t expect_judged(Bytes sheet, Bytes file, uint8_t *report) {
     lend(&pens[SHEET], sheet, sheet.length, 1);
     lend(&pens[JOB_FILE], file, file.length, 1);

@@ -57,6 +57,8 @@ void expect_read_book(Bytes book, size_t numbers, Answer due);
 void expect_between(Bytes sheet, const uint32_t *mild, const uint32_t *harsh, Answer due);
 /* Of load cells' records; what is written are four bytes a record. */
 void expect_cells(Bytes records, uint32_t w, size_t room, Answer due);
+/* Of a book; what is written are the two numbers of the answer. */
+void expect_first_failing(Bytes sheet, Bytes book, Answer due);
 /* The whole call where only acceptance is known: the report that it wrote, whose length is returned, 0 on a refusal. */
 size_t expect_judged(Bytes sheet, Bytes file, uint8_t *report);
 

@@ -74,6 +74,15 @@ typedef struct {
     Answer due;
 } CellsVector;
 
+/* A book under one of the sheets. */
+typedef struct {
+    const char *from;
+    int line;
+    int sheet;
+    Bytes book;
+    Answer due;
+} FirstFailingVector;
+
 /* A sheet to be judged with job J: the refusal due, or 0 where it stands. */
 typedef struct {
     int line;
@@ -248,14 +257,20 @@ static void write_book(const BookVector *row) {
         write_into(row, room, due_in(row->due, room));
 }
 
+/* What the rows of a book write back as: a book of no bytes has none, and those are one byte. */
+static Bytes written_back(Bytes book) {
+    static const uint8_t no_rows[] = {0x00};
+    return book.length == 0 ? (Bytes){no_rows, sizeof no_rows} : book;
+}
+
 /* Rows that were read write back as their book. */
 static void read_book(const BookVector *row) {
-    Bytes rows = row->due.written;
+    Bytes rows = row->due.written, back = written_back(row->given);
     read_into(row, row->room, row->due);
     if (row->due.refusal != 0)
         return;
     case_begins("%s:%d: write_book of the rows", row->from, row->line);
-    expect_write_book(rows, numbers_in(rows), row->given.length, gives((uint32_t)row->given.length, row->given));
+    expect_write_book(rows, numbers_in(rows), back.length, gives((uint32_t)back.length, back));
     for (size_t room = 0; row->given.length <= SHORT_BOOK_MOST && room <= numbers_in(rows) + BEYOND; room++)
         read_into(row, room, due_in(row->due, room / REMBILUNG_NUMBERS));
 }
@@ -313,6 +328,18 @@ static size_t all_cells(const CellsVector *rows, size_t count) {
     return count;
 }
 
+/* What this call refuses of a book, reading refuses alike, whatever room there is. */
+static size_t all_first_failings(const FirstFailingVector *rows, size_t count) {
+    for (size_t k = 0; k < count; k++) {
+        const FirstFailingVector *row = &rows[k];
+        case_begins("%s:%d: first_failing", row->from, row->line);
+        expect_first_failing(sheets[row->sheet], row->book, row->due);
+        if (row->due.refusal > 8)
+            expect_read_book(row->book, 0, row->due);
+    }
+    return count;
+}
+
 /* Counted, since no compiler says that a table which stands in an included file is left out. */
 static void all_requests(void) {
     size_t run = all_of(request_verdicts, COUNT(request_verdicts));
@@ -324,6 +351,7 @@ static void all_requests(void) {
     run += all_book_reads(request_read_books, COUNT(request_read_books));
     run += all_betweens(request_betweens, COUNT(request_betweens));
     run += all_cells(request_cells, COUNT(request_cells));
+    run += all_first_failings(request_first_failings, COUNT(request_first_failings));
     case_begins("%d cases of request-NN.txt", REQUEST_CASES);
     if (run != REQUEST_CASES)
         differs("only %zu are run", run);

@@ -5,7 +5,8 @@ is a case: the word of its call, and the parts after it. A part of no bytes or n
 
 The answers in a request's file are those after that request. Since request 5 a report has a line 12, so the reports in the files
 of earlier requests are handed out as `report_since_5` makes them, from what was given alone; since request 8 a half closed face
-takes shields below 300, and what an earlier refusal of one became stands in `SINCE_8`. The files stay as they are.
+takes shields below 300, and what an earlier refusal of one became stands in `SINCE_8`; since request 9 a book of no bytes has no
+rows, which `rows_since_9` says of earlier cases. The files stay as they are.
 """
 import collections
 import pathlib
@@ -30,6 +31,8 @@ SINCE_8 = {
     # The harsh job's shield is 2, and both jobs stand; 12 names their enclosures, 3 at the mild end and 2 at the harsh.
     ("request-06.txt", 84): "refused 12 17",
 }
+# A book of no bytes, read: before request 9, and since.
+EMPTY_BEFORE_9, EMPTY_SINCE_9 = "refused 9 0", "0 rows: -"
 HEXADECIMAL = r"-|([0-9a-f]{2})+"
 NUMBER_ROW = r"[0-9]{1,10}( [0-9]{1,10})*"
 # The bytes of a book or of records, W*N being the word W N times, and rows, one followed by *N standing N times.
@@ -39,6 +42,8 @@ ROW_RUN = rf"{NUMBER_ROW}( \*[0-9]{{1,4}})?"
 ROWS = rf"-|{ROW_RUN}( / {ROW_RUN})*"
 # What holds of every job between two: an outcome for each of the twelve checks, and two heights.
 OUTCOMES = r"([123] ){12}[0-9]{1,10} [0-9]{1,10}"
+# The first failing row of a book, or NONE, and how many rows are judged.
+NONE, FIRST_FAILING = NUMBER_MOST, r"[0-9]{1,10} [0-9]{1,3}"
 # What load cells' records come to: so many bytes, and the numbers, V*N being the number V N times.
 NUMBER_RUN = r"[0-9]{1,10}(\*[0-9]{1,4})?"
 PUSHES = rf"(0|[1-9][0-9]{{0,4}}) bytes: (-|{NUMBER_RUN}( {NUMBER_RUN})*)"
@@ -81,6 +86,8 @@ BookReading = collections.namedtuple("BookReading", "file line data room answer"
 Between = collections.namedtuple("Between", "file line sheet mild harsh answer")
 # A case of load cells' records: their bytes, w, how long the output is, and the answer as text.
 Cells = collections.namedtuple("Cells", "file line data w room answer")
+# A case of the first failing row of a book: the bytes of its sheet and of the book, and the answer as text.
+FirstFailing = collections.namedtuple("FirstFailing", "file line sheet data answer")
 
 
 class Fault(Exception):
@@ -278,9 +285,9 @@ def answer_in(case, text, form, what):
     return text
 
 
-def is_before_5(case):
-    """Whether the answers of its file are those before request 5; the names of the files sort by request."""
-    return case.file < "request-05.txt"
+def is_before(case, request):
+    """Whether the answers of its file are those before a request; the names of the files sort by request."""
+    return case.file < f"request-{request:02}.txt"
 
 
 def lines_since_5(heights, height):
@@ -304,7 +311,7 @@ def report_since_5(case, report, numbers):
 
 def answer_since_5(case, answer, numbers):
     """An answer with room enough, as it is since request 5."""
-    return report_since_5(case, answer, numbers) if is_before_5(case) and not answer.startswith("refused ") else answer
+    return report_since_5(case, answer, numbers) if is_before(case, 5) and not answer.startswith("refused ") else answer
 
 
 def verdict_of(case):
@@ -339,7 +346,7 @@ def too_short_since_5(case, answer, numbers):
 def room_and_answer_since_5(case, data, room, answer):
     """The room grows as the report does, so that what was just enough or a byte short still is; no room stays none."""
     short = answer.startswith("refused 8 ")
-    if not is_before_5(case) or (answer.startswith("refused ") and not short):
+    if not is_before(case, 5) or (answer.startswith("refused ") and not short):
         return room, answer
     numbers = numbers_of_file(data) or []
     due = too_short_since_5(case, answer, numbers) if short else report_since_5(case, answer, numbers)
@@ -379,6 +386,15 @@ def book_writing_of(case):
     return BookWriting(case.file, case.line, rows_in(case, rows), room_in(case, room), due)
 
 
+def rows_since_9(case, data, answer):
+    """What reading a book answers as it is since request 9: a book of no bytes, until then damaged, has no rows, in any room."""
+    if data or not is_before(case, 9):
+        return answer
+    if answer != EMPTY_BEFORE_9:
+        raise fault_in(case, f"before request 9 a book of no bytes was '{EMPTY_BEFORE_9}', and '{answer}' is found")
+    return EMPTY_SINCE_9
+
+
 def book_reading_of(case):
     """The case of a line read_book;BYTES;NUMBERS;ANSWER, where the answer names its rows and shows them."""
     data, room, answer = parts_of(case, "BYTES;NUMBERS;ANSWER")
@@ -386,7 +402,8 @@ def book_reading_of(case):
     count, _, rows = due.partition(" rows: ")
     if rows and len(rows_in(case, rows)) != int(count) * NUMBERS:
         raise fault_in(case, f"{count} rows are said, and as many are not shown")
-    return BookReading(case.file, case.line, book_in(case, data), room_in(case, room), due)
+    book = book_in(case, data)
+    return BookReading(case.file, case.line, book, room_in(case, room), rows_since_9(case, book, due))
 
 
 def answer_since_8(case, answer):
@@ -415,10 +432,20 @@ def cells_of(case):
     return Cells(case.file, case.line, book_in(case, records), numbers_in(case, w, 1)[0], room_in(case, room), due)
 
 
+def first_failing_of(case):
+    """The case of a line first_failing;SHEET;BYTES;ANSWER: a place, or none, and how many rows are judged."""
+    name, data, answer = parts_of(case, "SHEET;BYTES;ANSWER")
+    due = answer_in(case, answer, FIRST_FAILING, "a place and how many rows are judged")
+    place, judged = map(int, due.removeprefix("refused ").split(" "))
+    if not due.startswith("refused ") and place not in (judged - 1, NONE):
+        raise fault_in(case, f"of a failing row {place} no {judged} rows are judged")
+    return FirstFailing(case.file, case.line, sheet_in(case, name), book_in(case, data), due)
+
+
 # By the word of a call: what makes its case of a line.
 CALLS = {"verdict": verdict_of, "write_job": writing_of(NUMBERS), "write_support": writing_of(SUPPORT_NUMBERS),
          "read_job": reading_of, "verdict_file": file_verdict_of, "write_book": book_writing_of,
-         "read_book": book_reading_of, "between": between_of, "cells": cells_of}
+         "read_book": book_reading_of, "between": between_of, "cells": cells_of, "first_failing": first_failing_of}
 
 
 def cases_of_call(word):
