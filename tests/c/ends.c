@@ -1,15 +1,8 @@
 /* The answer due of a mild and a harsh job, from what is known of each by itself. */
 #include "ends.h"
 
-#include <stdio.h>
-
 #include "check.h"
-
-/* What a report says that an answer is made of. */
-typedef struct {
-    unsigned verdicts[REMBILUNG_CHECKS];
-    uint32_t height;
-} End;
+#include "reported.h"
 
 static uint32_t answer[REMBILUNG_BETWEEN_NUMBERS];
 
@@ -25,25 +18,6 @@ Answer outcomes(const char *checks, uint32_t mild_height, uint32_t harsh_height)
     return as_due(mild_height, harsh_height);
 }
 
-/* A report that cannot be read has been said to be none, or is said here. */
-static End end_of(Bytes sheet, const uint32_t *numbers) {
-    char text[REMBILUNG_REPORT_MOST + 1] = {0};
-    End end = {{0}, REMBILUNG_NONE};
-    File file = file_of(&scaffold, numbers);
-    const char *at = text;
-    unsigned height;
-    expect_judged(sheet, file_bytes(&file), (uint8_t *)text);
-    for (int k = 0; k < REMBILUNG_CHECKS; k++) {
-        int used = 0;
-        if (sscanf(at, "%*u %u %*u\n%n", &end.verdicts[k], &used) != 1)
-            differs("the report of an end has no line %d", k + 1);
-        at += used;
-    }
-    if (sscanf(at, "height %u ", &height) == 1)
-        end.height = height;
-    return end;
-}
-
 static uint32_t outcome_of(int check, unsigned mild, unsigned harsh) {
     if (mild == 2 && harsh != 2)
         differs("check %d fails at the mild end and not at the harsh", check);
@@ -51,7 +25,7 @@ static uint32_t outcome_of(int check, unsigned mild, unsigned harsh) {
 }
 
 Answer outcomes_of_reports(Bytes sheet, const uint32_t *mild, const uint32_t *harsh) {
-    End first = end_of(sheet, mild), second = end_of(sheet, harsh);
+    Reported first = reported(sheet, mild), second = reported(sheet, harsh);
     for (int k = 0; k < REMBILUNG_CHECKS; k++)
         answer[k] = outcome_of(k + 1, first.verdicts[k], second.verdicts[k]);
     if (first.height == REMBILUNG_NONE ? second.height != REMBILUNG_NONE
