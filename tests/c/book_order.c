@@ -1,8 +1,8 @@
 /* Refusals 10 and 11 of books, and which refusal goes first: every set of faults that can meet in one call. */
 #include <string.h>
 
+#include "book_faults.h"
 #include "check.h"
-#include "damage.h"
 #include "paper.h"
 #include "parts.h"
 
@@ -32,9 +32,11 @@ static uint32_t *field_of(size_t row, int field) {
     return &rows[REMBILUNG_NUMBERS_OF(row) + (size_t)field - 1];
 }
 
-/* Writing and reading name the same row, whatever room there is. */
+/* Writing and reading name the same row, whatever room there is; so does the search for a row that fails, which of these do. */
 static void row_refused(uint32_t row) {
+    Sheet t = sheet_t();
     make_book(&book, rows, FEW_ROWS);
+    expect_first_failing(sheet_bytes(&t), book_bytes(&book), refused(11, row));
     expect_write_book(row_bytes(rows, FEW_ROWS), FEW_NUMBERS, REMBILUNG_BOOK_MOST, refused(11, row));
     expect_write_book(row_bytes(rows, FEW_ROWS), FEW_NUMBERS, 0, refused(11, row));
     expect_read_book(book_bytes(&book), FEW_NUMBERS, refused(11, row));
@@ -111,11 +113,13 @@ static void rows_bad_in_any_way(void) {
 /* The count, and so many bytes of what is lent behind it: nothing of that counts. */
 static void high_count(uint32_t count, Bytes behind) {
     static uint8_t bytes[BOOK_ROOM];
+    Sheet t = sheet_t();
     size_t groups = put_groups(count, bytes);
     memcpy(bytes + groups, behind.at, behind.length);
     case_begins("a book of %u rows, %zu bytes behind the count", (unsigned)count, behind.length);
     expect_read_book((Bytes){bytes, groups + behind.length}, FEW_NUMBERS, refused(10, count));
     expect_read_book((Bytes){bytes, groups + behind.length}, 0, refused(10, count));
+    expect_first_failing(sheet_bytes(&t), (Bytes){bytes, groups + behind.length}, refused(10, count));
 }
 
 static void high_counts_refused(void) {
@@ -131,51 +135,22 @@ static void high_counts_refused(void) {
     }
 }
 
-/* The faults of reading, a bit each, in the order in which they are tried. */
-enum { COUNT_DAMAGED = 1, COUNT_HIGH = 2, DAMAGED = 4, EXTRA = 8, BAD_ROW = 16, SHORT = 32, READ_FAULTS = 64 };
-
-/* The count by its two faults: 3, 3 in a longer form, 201, 201 in a longer form. */
-static const Damage counts[] = {
-    {"3", {0x03}, 1, 1}, {"3", {0x83, 0x00}, 2, 0}, {"201", {0xC9, 0x01}, 2, 1}, {"201", {0xC9, 0x81, 0x00}, 3, 0}};
-
-/* A damaged number stands between the bad row's first and last. The count is replaced last, since that moves the others. */
-static size_t faulty_book(int faults, size_t middle, uint8_t *bytes) {
-    static uint8_t behind_count[BOOK_ROOM];
-    Bytes whole = book_bytes(&book);
-    memcpy(behind_count, whole.at, whole.length);
-    if (faults & DAMAGED)
-        whole.length = replaced(whole, book.offset[middle], book.offset[middle + 1], &damages[0], behind_count);
-    behind_count[whole.length] = 0x01;
-    whole.length += faults & EXTRA ? 1 : 0;
-    return replaced((Bytes){behind_count, whole.length}, 0, 1, &counts[faults & (COUNT_DAMAGED | COUNT_HIGH)], bytes);
-}
-
-static Answer read_due(int faults, size_t middle, size_t length) {
-    if (faults & COUNT_DAMAGED)
-        return refused(9, 0);
-    if (faults & COUNT_HIGH)
-        return refused(10, 201);
-    if (faults & DAMAGED)
-        return refused(9, (uint32_t)book.offset[middle]);
-    if (faults & EXTRA)
-        return refused(9, (uint32_t)length - 1);
-    if (faults & BAD_ROW)
-        return refused(11, 1);
-    return faults & SHORT ? refused(8, FEW_ROWS) : gives(FEW_ROWS, row_bytes(rows, FEW_ROWS));
-}
+/* Of reading there is one more, tried last. */
+enum { SHORT = BOOK_FAULTS, READ_FAULTS = 2 * BOOK_FAULTS };
 
 static void reading(int faults) {
-    static uint8_t bytes[BOOK_ROOM];
-    size_t middle = FEW_NUMBERS / 2;
+    static FaultyBook faulty;
     put_few(rows);
     if (faults & BAD_ROW)
-        *field_of(1, 1) = *field_of(1, REMBILUNG_NUMBERS) = 0;
-    make_book(&book, rows, FEW_ROWS);
-    size_t length = faulty_book(faults, middle, bytes);
+        spoil_row(rows);
+    put_faulty(rows, faults, &faulty);
+    Answer due = faulty_due(faults, &faulty);
+    if (due.refusal == 0)
+        due = faults & SHORT ? refused(8, FEW_ROWS) : gives(FEW_ROWS, row_bytes(rows, FEW_ROWS));
     case_begins("read_book with faults %02x (hexadecimal): count damaged %d, count 201 %d, number damaged %d, extra byte %d, "
                 "bad row %d, short room %d", faults, !!(faults & COUNT_DAMAGED), !!(faults & COUNT_HIGH), !!(faults & DAMAGED),
                 !!(faults & EXTRA), !!(faults & BAD_ROW), !!(faults & SHORT));
-    expect_read_book((Bytes){bytes, length}, FEW_NUMBERS - (faults & SHORT ? 1 : 0), read_due(faults, middle, length));
+    expect_read_book((Bytes){faulty.bytes, faulty.length}, FEW_NUMBERS - (faults & SHORT ? 1 : 0), due);
 }
 
 /* The faults of writing, in their order. */

@@ -64,12 +64,19 @@ static void both_ways(const uint32_t *rows) {
         expect_read_book(book_bytes(&book), numbers - 1, refused(8, (uint32_t)book.rows));
 }
 
+/* Reading a book and looking for a row of it that fails refuse alike, although every row of these fails. */
+static void refused_as(Bytes bytes, size_t numbers, Answer due) {
+    Sheet t = sheet_t();
+    expect_read_book(bytes, numbers, due);
+    expect_first_failing(sheet_bytes(&t), bytes, due);
+}
+
 static void one_too_many(void) {
     make_book(&book, many, MOST + 1);
     case_begins("write_book of 201 rows");
     expect_write_book(row_bytes(many, MOST + 1), REMBILUNG_NUMBERS_OF(MOST + 1), BOOK_LENT_MOST, refused(10, 201));
     case_begins("read_book of 201 rows");
-    expect_read_book(book_bytes(&book), REMBILUNG_NUMBERS_OF(MOST + 1), refused(10, 201));
+    refused_as(book_bytes(&book), REMBILUNG_NUMBERS_OF(MOST + 1), refused(10, 201));
 }
 
 static void put_many(void) {
@@ -100,13 +107,25 @@ static void longest_book(void) {
 }
 
 static void damaged_at(Bytes bytes, size_t offset) {
-    expect_read_book(bytes, REMBILUNG_NUMBERS_OF(FEW_ROWS), refused(9, (uint32_t)offset));
+    refused_as(bytes, REMBILUNG_NUMBERS_OF(FEW_ROWS), refused(9, (uint32_t)offset));
 }
 
-/* The number that is cut, or that would have come next, is named. */
+/* A season with no rows, whose book has no bytes; what is written of no rows is another book, of one byte. */
+static void empty_season(void) {
+    static const uint8_t no_rows[] = {0x00};
+    Bytes none = {NULL, 0};
+    for (size_t numbers = 0; numbers <= 2 * REMBILUNG_NUMBERS; numbers++) {
+        case_begins("read_book of no bytes, room for %zu numbers", numbers);
+        expect_read_book(none, numbers, gives(0, none));
+    }
+    case_begins("write_book of the rows that a book of no bytes has");
+    expect_write_book(none, 0, REMBILUNG_BOOK_MOST, gives(1, (Bytes){no_rows, sizeof no_rows}));
+}
+
+/* The number that is cut, or that would have come next, is named; cut to nothing, a book is that of an empty season. */
 static void cut_at_every_byte(void) {
     size_t whole = 0;
-    for (size_t length = 0; length < book_bytes(&book).length; length++) {
+    for (size_t length = 1; length < book_bytes(&book).length; length++) {
         if (book.offset[whole + 1] <= length)
             whole++;
         case_begins("a book of %d rows cut to %zu bytes", FEW_ROWS, length);
@@ -134,7 +153,7 @@ static void damaged(size_t number, const Damage *damage) {
     Answer due = damage->is_number ? great : refused(9, (uint32_t)book.offset[number]);
     case_begins("a book of %d rows with number %zu, counted from the row count, as %s (hexadecimal)", FEW_ROWS, number,
                 damage->what);
-    expect_read_book((Bytes){bytes, length}, REMBILUNG_NUMBERS_OF(FEW_ROWS), due);
+    refused_as((Bytes){bytes, length}, REMBILUNG_NUMBERS_OF(FEW_ROWS), due);
 }
 
 static void damaged_in_every_way(size_t number) {
@@ -167,9 +186,9 @@ static void without_columns(void) {
     for (size_t k = 0; k < REMBILUNG_NUMBERS; k++) {
         size_t length = offset_in_book(&book, 0, k);
         case_begins("a book of %d rows without column %zu and what follows it", MOST, k + 1);
-        expect_read_book((Bytes){book.bytes, length}, REMBILUNG_NUMBERS_OF(MOST), refused(9, (uint32_t)length));
-        expect_read_book((Bytes){book.bytes, length - 1}, REMBILUNG_NUMBERS_OF(MOST),
-                         refused(9, (uint32_t)(k == 0 ? 0 : offset_in_book(&book, MOST - 1, k - 1))));
+        refused_as((Bytes){book.bytes, length}, REMBILUNG_NUMBERS_OF(MOST), refused(9, (uint32_t)length));
+        refused_as((Bytes){book.bytes, length - 1}, REMBILUNG_NUMBERS_OF(MOST),
+                   refused(9, (uint32_t)(k == 0 ? 0 : offset_in_book(&book, MOST - 1, k - 1))));
     }
 }
 
@@ -197,6 +216,7 @@ void test_books(void) {
     every_length();
     every_count();
     longest_book();
+    empty_season();
     without_columns();
     make_book(&book, few, 0);
     extended_by_all();

@@ -25,7 +25,7 @@ static void *zeros(size_t length) {
 
 static void sheet_of_length(size_t length, uint32_t place) {
     uint8_t report[REMBILUNG_REPORT_MOST];
-    uint32_t answer[REMBILUNG_BETWEEN_NUMBERS];
+    uint32_t answer[REMBILUNG_BETWEEN_NUMBERS], first[REMBILUNG_FIRST_FAILING_NUMBERS];
     File j = file_of(&scaffold, job_j);
     Sheet t = sheet_t();
     uint8_t *sheet = zeros(length);
@@ -33,6 +33,7 @@ static void sheet_of_length(size_t length, uint32_t place) {
     case_begins("sheet of %zu bytes", length);
     result_is(rembilung_verdict(sheet, length, j.bytes, file_bytes(&j).length, report, sizeof report), refused(1, place));
     result_is(rembilung_between(sheet, length, job_j, job_j, answer), refused(1, place));
+    result_is(rembilung_first_failing(sheet, length, book_j.bytes, book_bytes(&book_j).length, first), refused(1, place));
     munmap(sheet, length);
 }
 
@@ -87,14 +88,16 @@ static void great_lengths_of(Judged job) {
     long_file_buffer(job);
 }
 
-static void long_book(void) {
-    uint32_t rows[REMBILUNG_NUMBERS];
-    make_book(&book_j, job_j, 1);
-    size_t own = book_bytes(&book_j).length, length = GIB4 + own;
+/* A book with 4 GiB of zeros behind it. */
+static void long_book(Bytes own, uint32_t place) {
+    uint32_t rows[REMBILUNG_NUMBERS], first[REMBILUNG_FIRST_FAILING_NUMBERS];
+    size_t length = GIB4 + own.length;
+    Sheet t = sheet_t();
     uint8_t *book = zeros(length);
-    memcpy(book, book_j.bytes, own);
-    case_begins("the book of J with 4 GiB of zeros behind it");
-    result_is(rembilung_read_book(book, length, rows, REMBILUNG_NUMBERS), refused(9, (uint32_t)own));
+    memcpy(book, own.at, own.length);
+    case_begins("a book of %zu bytes with 4 GiB of zeros behind it", own.length);
+    result_is(rembilung_read_book(book, length, rows, REMBILUNG_NUMBERS), refused(9, place));
+    result_is(rembilung_first_failing(t.bytes, sizeof t.bytes, book, length, first), refused(9, place));
     munmap(book, length);
 }
 
@@ -127,7 +130,10 @@ static void many_rows_to_write(size_t numbers, uint32_t place) {
 }
 
 static void great_lengths_of_books(void) {
-    long_book();
+    Bytes own = book_bytes(&book_j);
+    long_book(own, (uint32_t)own.length);
+    /* No bytes where the length is cut to 32 bits; the first of the zeros is a count. */
+    long_book((Bytes){own.at, 0}, 1);
     long_book_buffer();
     many_rows_to_read_into(GIB4 + 3);
     many_rows_to_write(GIB4 + REMBILUNG_NUMBERS, 171798692);
@@ -182,6 +188,7 @@ static void great_lengths_of_cells(void) {
 }
 
 void test_great_lengths(int within_128_gib) {
+    make_book(&book_j, job_j, 1);
     sheet_of_length(GIB4 - 2, 4294967294);
     sheet_of_length(GIB4 - 1, 4294967295);
     sheet_of_length(GIB4, 4294967295);

@@ -1,5 +1,6 @@
 // Calls every function of the header from C++, the header included first and twice; exit status 0 where job J is judged, and a
-// support goes to a file and back, J to a book and back, J stands at both ends, and a load cell's record is worked out.
+// support goes to a file and back, J to a book and back, J stands at both ends and is found failing in a book, and a load cell's
+// record is worked out.
 #include "rembilung.h"
 #include "rembilung.h"
 
@@ -33,6 +34,22 @@ static bool ends_are_told(const uint8_t sheet[REMBILUNG_SHEET_BYTES]) {
            answer[0] == REMBILUNG_PASSES_THROUGHOUT && answer[REMBILUNG_BETWEEN_HARSH_HEIGHT] != REMBILUNG_NONE;
 }
 
+/* Of two rows the second is J, which fails check 11 under any sheet; a book of no bytes has no rows. */
+static bool failing_row_is_found(const uint8_t sheet[REMBILUNG_SHEET_BYTES]) {
+    static uint8_t book[REMBILUNG_BOOK_MOST];
+    static uint32_t rows[REMBILUNG_NUMBERS_OF(2)];
+    uint32_t first[REMBILUNG_FIRST_FAILING_NUMBERS], none[REMBILUNG_FIRST_FAILING_NUMBERS];
+    for (size_t k = 0; k < REMBILUNG_NUMBERS_OF(2); k++)
+        rows[k] = job_j[k % REMBILUNG_NUMBERS];
+    rows[REMBILUNG_GROUND_STRENGTH] = 201;
+    uint64_t made = rembilung_write_book(rows, REMBILUNG_NUMBERS_OF(2), book, sizeof book);
+    uint64_t found = rembilung_first_failing(sheet, REMBILUNG_SHEET_BYTES, book, (size_t)made, first);
+    return found == REMBILUNG_FIRST_FAILING_NUMBERS && first[REMBILUNG_FIRST_FAILING_ROW] == 1 &&
+           first[REMBILUNG_FIRST_FAILING_JUDGED] == 2 &&
+           rembilung_first_failing(sheet, REMBILUNG_SHEET_BYTES, book, 0, none) == REMBILUNG_FIRST_FAILING_NUMBERS &&
+           none[REMBILUNG_FIRST_FAILING_ROW] == REMBILUNG_NONE && none[REMBILUNG_FIRST_FAILING_JUDGED] == 0;
+}
+
 /* A push of 2.5 N counts as 3. */
 static bool cells_are_worked_out() {
     static const uint8_t record[REMBILUNG_CELL_RECORD] = {REMBILUNG_CELL_PUSH, 0, 0, 0, 0, 0, 0x20, 0x40};
@@ -52,7 +69,7 @@ int main() {
     uint64_t done = rembilung_verdict(sheet, sizeof sheet, file, (size_t)made, report, sizeof report);
     bool judged = rembilung_refusal(done) == 0 && rembilung_place(done) == done;
     return numbers[REMBILUNG_PAD_AREA] == 2000 && judged && support_goes_round() && book_goes_round() &&
-                   ends_are_told(sheet) && cells_are_worked_out()
+                   ends_are_told(sheet) && failing_row_is_found(sheet) && cells_are_worked_out()
                ? 0
                : 1;
 }

@@ -4,6 +4,7 @@
 
 #include "check.h"
 #include "ends.h"
+#include "failing.h"
 #include "paper.h"
 #include "parts.h"
 #include "records.h"
@@ -53,6 +54,27 @@ static void ends_at_address(size_t shift) {
         differs("the answer is not J's");
 }
 
+/* Sheet and book at distances of their own; the numbers of the answer where C puts them. */
+static void first_at_address(size_t shift) {
+    static uint8_t room[2][544];
+    static uint32_t answer[32];
+    static Book book_j;
+    size_t other = (5 * shift + 3) % 16, number = shift % 4;
+    uint8_t *sheet = aligned(room[0]) + shift, *book = aligned(room[1]) + other;
+    Sheet t = sheet_t();
+    Answer due = fails_first_at(0);
+    make_book(&book_j, job_j, 1);
+    Bytes own = book_bytes(&book_j);
+    memcpy(sheet, t.bytes, sizeof t.bytes);
+    memcpy(book, own.at, own.length);
+    memset(answer, 0, sizeof answer);
+    case_begins("the book of J %zu bytes after a multiple of 16, the sheet %zu, the answer %zu numbers into a buffer", other, shift,
+                number);
+    result_is(rembilung_first_failing(sheet, sizeof t.bytes, book, own.length, answer + number), due);
+    if (memcmp(answer + number, due.written.at, due.written.length) != 0)
+        differs("the answer is not that of J");
+}
+
 /* Records and output at distances of their own. */
 static void cells_at_address(size_t shift) {
     static const uint32_t numbers[] = {3, 3, 8};
@@ -98,6 +120,8 @@ int main(int count, char **words) {
     for (size_t shift = 0; shift < 16; shift++)
         ends_at_address(shift);
     for (size_t shift = 0; shift < 16; shift++)
+        first_at_address(shift);
+    for (size_t shift = 0; shift < 16; shift++)
         cells_at_address(shift);
     test_sheets();
     test_files();
@@ -106,6 +130,8 @@ int main(int count, char **words) {
     test_supports();
     test_books();
     test_book_order();
+    test_first();
+    test_first_order();
     test_between();
     test_cells();
     test_cell_values();

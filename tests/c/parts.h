@@ -10,6 +10,8 @@ void test_order(void);
 void test_supports(void);
 void test_books(void);
 void test_book_order(void);
+void test_first(void);
+void test_first_order(void);
 void test_between(void);
 void test_cells(void);
 void test_cell_values(void);

@@ -3,16 +3,20 @@
 
 #include "check.h"
 #include "ends.h"
+#include "failing.h"
 #include "paper.h"
 #include "parts.h"
 
 enum { LAST = 250, LONGEST = 1100 };
 
-/* J under a sheet: judged, and at both ends. */
+/* J under a sheet: judged, at both ends, and in a book, where it fails check 11. */
 static void judged_as(Bytes sheet, Answer due) {
+    static Book book;
     File j = file_of(&scaffold, job_j);
+    make_book(&book, job_j, 1);
     expect_verdict(sheet, file_bytes(&j), REMBILUNG_REPORT_MOST, due);
     expect_between(sheet, job_j, job_j, due.refusal == 0 ? outcomes_j() : due);
+    expect_first_failing(sheet, book_bytes(&book), due.refusal == 0 ? fails_first_at(0) : due);
 }
 
 /* Bytes of sheet T with zeros behind, so that a longer sheet is refused for its length alone. */
