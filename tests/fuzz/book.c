@@ -1,16 +1,18 @@
-/* Fuzzes books: reading and writing against a plain way to the same, every buffer lent between guards; and what the host says
- * of a book that is refused. */
+/* Fuzzes books: reading and writing against a plain way to the same, and the first failing row against a report on each row, every
+ * buffer lent between guards; and what the host says of a book that is refused. */
 #define _DEFAULT_SOURCE
 #include "book.h"
 
 #include "guarded.h"
 #include "jobs.h"
+#include "report.h"
+#include "sheet.h"
 
 #define ROWS_MOST REMBILUNG_BOOK_ROWS_MOST
 #define NUMBERS_MOST REMBILUNG_NUMBERS_OF(ROWS_MOST + 1)
 #define REFUSED_WITH(refusal, place) ((uint64_t)(refusal) << 32 | (uint64_t)(place))
 
-static Guarded lent_book, lent_rows;
+static Guarded lent_book, lent_rows, lent_sheet, lent_answer;
 
 /* A book as a plain reader finds it: rows as far as they are there, and where they end or are damaged. */
 typedef struct {
@@ -58,9 +60,9 @@ static size_t bad_row(const uint32_t *rows, size_t count) {
     return row;
 }
 
-/* What is due for reading a book with room enough; the room is tried last. */
+/* What is due for reading a book with room enough; the room is tried last. A book of no bytes has no rows. */
 static uint64_t plain_read(Plain *plain) {
-    uint64_t count = plain_number(plain);
+    uint64_t count = plain->length == 0 ? 0 : plain_number(plain);
     if (plain->damaged)
         return REFUSED_WITH(9, 0);
     if (count > ROWS_MOST)
@@ -164,16 +166,87 @@ static void explained(const uint8_t *book, const Plain *plain, uint64_t due) {
         same_row(book, plain, rembilung_place(due));
 }
 
-/* What was read writes back as the same bytes. */
+/* What was read writes back as the same bytes, and no rows as one byte 0. */
 static void back(const uint8_t *book, const Plain *plain) {
+    static const uint8_t no_rows[1];
     static Season season;
+    const uint8_t *bytes = plain->length == 0 ? no_rows : plain->bytes;
     memcpy(season.rows, plain->rows, REMBILUNG_NUMBERS_OF(plain->count) * sizeof season.rows[0]);
     season.count = plain->count;
     expect(&season);
-    MUST(season.due == plain->length && memcmp(season.book, plain->bytes, plain->length) == 0);
+    MUST(season.due == (plain->length == 0 ? 1 : plain->length) && memcmp(season.book, bytes, season.due) == 0);
     if (plain->count > 0)
         same_row(book, plain, plain->count - 1);
     write_into_all(&season);
+}
+
+/* The report of the whole call on a row, which has to accept it, shows a failed check. */
+static int row_fails(const Sheet *sheet, const uint32_t *row) {
+    uint8_t file[REMBILUNG_FILE_MOST], bytes[REMBILUNG_REPORT_MOST];
+    Report report;
+    int failed = 0;
+    uint64_t made = rembilung_write_job(row, file, sizeof file);
+    MUST(!rembilung_refused(made));
+    uint64_t done = rembilung_verdict(sheet->bytes, sheet->length, file, (size_t)made, bytes, sizeof bytes);
+    MUST(!rembilung_refused(done) && read_report(bytes, (size_t)done, &scaffold, &report));
+    for (int k = 0; k < CHECKS; k++)
+        failed |= report.verdicts[k] == FAILS;
+    return failed;
+}
+
+/* A sheet, and what is due of a book under it. */
+typedef struct {
+    const uint8_t *sheet;
+    size_t length;
+    uint64_t due;
+    uint32_t answer[REMBILUNG_FIRST_FAILING_NUMBERS];
+} Judged;
+
+/* The answer that is due, and nothing written but its two numbers, where they are due. */
+static void judge(const Judged *judged, const Plain *plain, int at_end) {
+    uint8_t *sheet = lend(&lent_sheet, judged->length, at_end), *book = lend(&lent_book, plain->length, at_end);
+    uint32_t *answer = lend(&lent_answer, sizeof judged->answer, at_end);
+    size_t written = rembilung_refused(judged->due) ? 0 : sizeof judged->answer;
+    memcpy(sheet, judged->sheet, judged->length);
+    memcpy(book, plain->bytes, plain->length);
+    MUST(rembilung_first_failing(sheet, judged->length, book, plain->length, answer) == judged->due);
+    MUST(untouched(&lent_answer, written) && memcmp(answer, judged->answer, written) == 0);
+    MUST(untouched(&lent_sheet, judged->length) && memcmp(sheet, judged->sheet, judged->length) == 0);
+    MUST(untouched(&lent_book, plain->length) && memcmp(book, plain->bytes, plain->length) == 0);
+}
+
+static void judge_at_both_ends(const Judged *judged, const Plain *plain) {
+    judge(judged, plain, 0);
+    judge(judged, plain, 1);
+}
+
+/* What reading refuses is refused alike, else every row is judged up to one that fails. */
+static void judge_under(const Sheet *sheet, const Plain *plain, uint64_t due) {
+    uint32_t row = 0;
+    while (!rembilung_refused(due) && row < plain->count && !row_fails(sheet, plain->rows + REMBILUNG_NUMBERS_OF(row)))
+        row++;
+    Judged judged = {sheet->bytes, sheet->length, rembilung_refused(due) ? due : REMBILUNG_FIRST_FAILING_NUMBERS,
+                     {row < plain->count ? row : REMBILUNG_NONE, row < plain->count ? row + 1 : row}};
+    judge_at_both_ends(&judged, plain);
+}
+
+/* A bad sheet is refused before anything of the book: an entry is 0, or the sheet ends before it. */
+static void judge_under_bad(const Sheet *sheet, const Plain *plain) {
+    uint8_t bytes[REMBILUNG_SHEET_BYTES];
+    size_t entry = plain->length % (REMBILUNG_SHEET_BYTES / 2);
+    memcpy(bytes, sheet->bytes, sizeof bytes);
+    memset(bytes + 2 * entry, 0, 2);
+    judge_at_both_ends(&(Judged){bytes, sizeof bytes, REFUSED_WITH(2, entry), {0, 0}}, plain);
+    judge_at_both_ends(&(Judged){bytes, 2 * entry, REFUSED_WITH(1, 2 * entry), {0, 0}}, plain);
+}
+
+static void judge_any(const Plain *plain, uint64_t due) {
+    static Sheet t, c;
+    test_sheet(&t);
+    example_sheet(&c);
+    judge_under(&t, plain, due);
+    judge_under(&c, plain, due);
+    judge_under_bad(&t, plain);
 }
 
 static void read_any(const uint8_t *data, size_t size) {
@@ -186,6 +259,7 @@ static void read_any(const uint8_t *data, size_t size) {
         explained(book, &plain, due);
     else
         back(book, &plain);
+    judge_any(&plain, due);
 }
 
 /* Rows that all stand, from the bytes: a few, which are quickly tried, or as many as a book has, or one more. */
@@ -219,6 +293,8 @@ int LLVMFuzzerTestOneInput(const uint8_t *data, size_t size) {
     if (lent_book.bytes == NULL) {
         guard(&lent_book);
         guard(&lent_rows);
+        guard(&lent_sheet);
+        guard(&lent_answer);
     }
     read_any(data, size);
     /* A count that begins so is above 200; the bytes after it make a season. */
