@@ -1,12 +1,10 @@
-/* The calls that judge in plain C, from document 01 and requests 1, 2, 5 and 6 of document 02 as docs/DECISIONS.md reads them:
- * what the library's are measured against.
+/* The calls that judge in plain C, from document 01 and requests 1, 2, 5, 6 and 9 of document 02 as docs/DECISIONS.md reads
+ * them: what the library's are measured against.
  *
  * Whole numbers throughout, each formula cleared of its fractions. Lengths are in cm, as in the job. The stability height
  * is found by division, a quotient for each of the two pole checks, and not by a search: that is the shorter way. */
 #include "plain.h"
-#include "plain_job.h"
-
-#include <string.h>
+#include "plain_columns.h"
 
 enum { SUPPORT_NUMBERS = 13, ENTRIES = 251, SHEET_TENTHS = 2500, CHECKS = 12, TEXT_ROOM = 256 };
 enum { SUPPORT = 3, CLOSED_WALL = 1 };
@@ -410,4 +408,44 @@ uint64_t plain_between(const uint8_t *sheet, size_t sheet_len, const uint32_t *m
     answer[CHECKS] = height_of(&at_mild);
     answer[CHECKS + 1] = height_of(&at_harsh);
     return CHECKS + 2;
+}
+
+static int row_fails(const uint8_t *sheet, const Job *j) {
+    Judgement g;
+    judge(sheet, j, &g);
+    for (int k = 0; k < CHECKS; k++)
+        if (g.verdict[k] == FAILS)
+            return 1;
+    return 0;
+}
+
+/* Refusal 11, or 0 and the first row that fails, or the number of rows. Rows are judged as they are examined, up to that row. */
+static uint64_t search_rows(const uint8_t *sheet, const uint8_t *book, uint32_t count, size_t *column, uint32_t *first) {
+    uint32_t row[NUMBERS];
+    Job job;
+    *first = count;
+    for (uint32_t r = 0; r < count; r++) {
+        take_row(book, column, row);
+        memcpy(&job, row, sizeof job);
+        if (examine_job(row, &job) != 0)
+            return refuse(11, r);
+        if (*first == count && row_fails(sheet, &job))
+            *first = r;
+    }
+    return 0;
+}
+
+uint64_t plain_first_failing(const uint8_t *sheet, size_t sheet_len, const uint8_t *book, size_t book_len, uint32_t *answer) {
+    size_t column[NUMBERS];
+    uint32_t count, first;
+    uint64_t refusal = examine_sheet(sheet, sheet_len);
+    if (refusal == 0)
+        refusal = open_book(book, book_len, &count, column);
+    if (refusal == 0)
+        refusal = search_rows(sheet, book, count, column, &first);
+    if (refusal != 0)
+        return refusal;
+    answer[0] = first < count ? first : UINT32_MAX;
+    answer[1] = first < count ? first + 1 : count;
+    return 2;
 }

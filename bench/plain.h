@@ -1,4 +1,4 @@
-/* The calls that judge, on a book and on load cells in plain C, to measure the library against: same arguments, answers, bytes. */
+/* The calls that judge, on books and on load cells in plain C, to measure the library against: same arguments, answers, bytes. */
 #ifndef PLAIN_H
 #define PLAIN_H
 
@@ -11,6 +11,9 @@ uint64_t plain_verdict(const uint8_t *sheet, size_t sheet_len,
 uint64_t plain_between(const uint8_t *sheet, size_t sheet_len,
                        const uint32_t *mild, const uint32_t *harsh,
                        uint32_t *answer);
+uint64_t plain_first_failing(const uint8_t *sheet, size_t sheet_len,
+                             const uint8_t *book, size_t book_len,
+                             uint32_t *answer);
 uint64_t plain_write_book(const uint32_t *rows, size_t numbers,
                           uint8_t *book, size_t book_len);
 uint64_t plain_read_book(const uint8_t *book, size_t book_len,

@@ -1,20 +1,10 @@
-/* The two calls on a book in plain C, from request 3 of document 02 as docs/DECISIONS.md reads it: what the library's are
- * measured against.
+/* The two calls on a book in plain C, from requests 3 and 9 of document 02 as docs/DECISIONS.md reads them: what the library's
+ * are measured against.
  *
  * A unit has no room for 5,000 numbers beside the caller's, and a refusal comes before the first byte written. So a book is
  * gone through three times: number by number for damage, row by row with a place in each column, and into the lent rows. */
 #include "plain.h"
-#include "plain_job.h"
-
-#include <string.h>
-
-enum { ROWS_MOST = 200 };
-
-static int row_stands(const uint32_t *row) {
-    Job job;
-    memcpy(&job, row, sizeof job);
-    return examine_job(row, &job) == 0;
-}
+#include "plain_columns.h"
 
 static size_t groups_of(uint32_t number) {
     size_t groups = 1;
@@ -73,42 +63,6 @@ uint64_t plain_write_book(const uint32_t *rows, size_t numbers, uint8_t *book, s
     return length;
 }
 
-/* Moves behind a column; refusal 9, or 0. */
-static uint64_t pass_column(const uint8_t *book, size_t length, size_t count, size_t *at) {
-    uint32_t number;
-    for (size_t r = 0; r < count; r++) {
-        size_t first = *at;
-        if (!read_number(book, length, at, &number))
-            return refuse(9, first);
-    }
-    return 0;
-}
-
-/* Refusal 9, or 0 and the place of each column's first byte, the first being given. */
-static uint64_t find_columns(const uint8_t *book, size_t length, size_t count, size_t *column) {
-    size_t at = column[0];
-    for (int k = 0; k < NUMBERS; k++) {
-        column[k] = at;
-        uint64_t refusal = pass_column(book, length, count, &at);
-        if (refusal != 0)
-            return refusal;
-    }
-    return at < length ? refuse(9, at) : 0;
-}
-
-/* A number that is known to be whole, and on behind it. */
-static uint32_t take_number(const uint8_t *book, size_t *at) {
-    uint32_t value = book[*at] & 0x7F;
-    for (int shift = 7; book[(*at)++] >= 0x80; shift += 7)
-        value |= (uint32_t)(book[*at] & 0x7F) << shift;
-    return value;
-}
-
-static void take_row(const uint8_t *book, size_t *column, uint32_t *row) {
-    for (int k = 0; k < NUMBERS; k++)
-        row[k] = take_number(book, &column[k]);
-}
-
 /* Refusal 11, or 0. */
 static uint64_t examine_rows(const uint8_t *book, size_t count, size_t *column) {
     uint32_t row[NUMBERS];
@@ -126,14 +80,10 @@ static void take_column(const uint8_t *book, size_t *at, uint32_t *first, size_t
 }
 
 uint64_t plain_read_book(const uint8_t *book, size_t book_len, uint32_t *rows, size_t numbers) {
-    size_t column[NUMBERS] = {0};
+    size_t column[NUMBERS];
     uint32_t count;
-    if (!read_number(book, book_len, &column[0], &count))
-        return refuse(9, 0);
-    if (count > ROWS_MOST)
-        return refuse(10, count);
+    uint64_t refusal = open_book(book, book_len, &count, column);
     size_t at = column[0];
-    uint64_t refusal = find_columns(book, book_len, count, column);
     if (refusal == 0)
         refusal = examine_rows(book, count, column);
     if (refusal != 0)
