@@ -17,17 +17,17 @@ size_t pack_book(const uint32_t *rows, size_t count, uint8_t *book) {
     return at;
 }
 
-static void as_it_is(BookInput *to) {
+void leave_book(BookInput *to) {
     (void)to;
 }
 
-static void bad_last_row(BookInput *to) {
+void spoil_last_row(BookInput *to) {
     to->rows[to->numbers - from_to(1, REMBILUNG_NUMBERS)] = from_to(100001, 4000000000u);
     to->book_len = pack_book(to->rows, to->numbers / REMBILUNG_NUMBERS, to->book);
 }
 
 /* The last number is cut off or is not in its shortest form. */
-static void damaged_end(BookInput *to) {
+void damage_end(BookInput *to) {
     to->book_len -= 1;
     if (from_to(0, 1) == 0)
         return;
@@ -44,21 +44,22 @@ static void short_rows(BookInput *to) {
 }
 
 const BookClass book_classes[BOOK_CLASSES] = {
-    {"writing, 200 rows", 1, 200, 16, 1, as_it_is},
-    {"writing, 20 rows", 1, 20, 160, 0, as_it_is},
-    {"writing, 1 row", 1, 1, 512, 0, as_it_is},
-    {"11 writing, last of 200 rows bad", 1, 200, 16, 0, bad_last_row},
+    {"writing, 200 rows", 1, 200, 16, 1, leave_book},
+    {"writing, 20 rows", 1, 20, 160, 0, leave_book},
+    {"writing, 1 row", 1, 1, 512, 0, leave_book},
+    {"11 writing, last of 200 rows bad", 1, 200, 16, 0, spoil_last_row},
     {"8 writing, buffer too short for 200 rows", 1, 200, 16, 0, short_book},
-    {"reading, 200 rows", 0, 200, 16, 1, as_it_is},
-    {"reading, 20 rows", 0, 20, 160, 0, as_it_is},
-    {"reading, 1 row", 0, 1, 512, 0, as_it_is},
-    {"9 reading, last number of 200 rows damaged", 0, 200, 16, 0, damaged_end},
-    {"11 reading, last of 200 rows bad", 0, 200, 16, 0, bad_last_row},
+    {"reading, 200 rows", 0, 200, 16, 1, leave_book},
+    {"reading, 20 rows", 0, 20, 160, 0, leave_book},
+    {"reading, 1 row", 0, 1, 512, 0, leave_book},
+    {"9 reading, last number of 200 rows damaged", 0, 200, 16, 0, damage_end},
+    {"11 reading, last of 200 rows bad", 0, 200, 16, 0, spoil_last_row},
     {"8 reading, room too short for 200 rows", 0, 200, 16, 0, short_rows},
 };
 
-static void *room(size_t bytes) {
-    void *at = calloc(1, bytes);
+/* Of no bytes there may be none, which is no fault. */
+void *room_of(size_t bytes) {
+    void *at = calloc(1, bytes > 0 ? bytes : 1);
     if (at == NULL) {
         fprintf(stderr, "bench: no memory for the books\n");
         exit(1);
@@ -71,17 +72,21 @@ static void random_rows(uint32_t *rows, int count) {
         random_job(from_to(0, 2) == 0 ? 2 : 1, rows + REMBILUNG_NUMBERS_OF(r));
 }
 
+BookInput room_for_book(int rows) {
+    size_t numbers = REMBILUNG_NUMBERS_OF(rows);
+    return (BookInput){room_of(numbers * sizeof(uint32_t)), numbers,
+                       room_of((size_t)rows * REMBILUNG_FILE_MOST + 2 + FIVE_BYTES_MORE), 0};
+}
+
 static void make_book(const BookClass *class, BookInput *to) {
-    to->numbers = REMBILUNG_NUMBERS_OF(class->rows);
-    to->rows = room(to->numbers * sizeof *to->rows);
-    to->book = room((size_t)class->rows * REMBILUNG_FILE_MOST + 2 + FIVE_BYTES_MORE);
+    *to = room_for_book(class->rows);
     random_rows(to->rows, class->rows);
     to->book_len = pack_book(to->rows, (size_t)class->rows, to->book);
     class->spoil(to);
 }
 
 static void make_class(int class) {
-    books[class] = room((size_t)book_classes[class].count * sizeof(BookInput));
+    books[class] = room_of((size_t)book_classes[class].count * sizeof(BookInput));
     for (int k = 0; k < book_classes[class].count; k++)
         make_book(&book_classes[class], &books[class][k]);
 }

@@ -28,6 +28,13 @@ extern BookInput *books[BOOK_CLASSES];
 
 /* Fills books, after make_inputs; the same on every run. */
 void make_books(void);
+/* So many zeros; and room for so many rows and their book. Where there is no memory the program ends. */
+void *room_of(size_t bytes);
+BookInput room_for_book(int rows);
+/* Leaves a book as it is; makes its last row a bad one; cuts its last number off or damages it. */
+void leave_book(BookInput *book);
+void spoil_last_row(BookInput *book);
+void damage_end(BookInput *book);
 /* Packs so many rows into a book as the papers have it, and returns its length. */
 size_t pack_book(const uint32_t *rows, size_t count, uint8_t *book);
 

@@ -4,6 +4,7 @@
 
 #include "books.h"
 #include "cells.h"
+#include "failing.h"
 #include "pairs.h"
 
 enum { VERSIONS_MOST = 3 };
@@ -14,6 +15,7 @@ typedef uint64_t ReadJob(const uint8_t *, size_t, uint32_t *);
 typedef uint64_t WriteBook(const uint32_t *, size_t, uint8_t *, size_t);
 typedef uint64_t ReadBook(const uint8_t *, size_t, uint32_t *, size_t);
 typedef uint64_t Cells(const uint8_t *, size_t, uint32_t, uint8_t *, size_t);
+typedef uint64_t FirstFailing(const uint8_t *, size_t, const uint8_t *, size_t, uint32_t *);
 
 /* The library first; then plain C by each compiler that there was, which does not read a job file by itself. */
 typedef struct {
@@ -24,19 +26,23 @@ typedef struct {
     WriteBook *write_book;
     ReadBook *read_book;
     Cells *cells;
+    FirstFailing *first_failing;
 } Version;
 
 extern const Version versions[];
 extern const int version_count;
 
-/* The lists: the classes of whole calls, the mix of them, the classes of books, those of pairs, those of load cells, and what is
- * done with the accepted pairs by the calls on one job, in this order. */
-enum { TWO_CALLS, INTO_NO_ROOM, TWO_READINGS, SHEET_ALONE, PARTS };
+/* The lists: the classes of whole calls, the mix of them, the classes of books, those of pairs, those of load cells, those of
+ * books with a first failing row, what is done with the accepted pairs by the calls on one job, and what other calls do with the
+ * books that have an aim, in this order: a whole call on each of the rows that pass; reading the book whose row 0 fails, and a
+ * whole call on that row. */
+enum { TWO_CALLS, INTO_NO_ROOM, TWO_READINGS, SHEET_ALONE, PAIR_PARTS };
+enum { ROW_CALLS = PAIR_PARTS, BOOK_READ, ROW_0_CALL, PARTS };
 enum { MIXED = CLASSES, BOOK_LISTS, PAIR_LISTS = BOOK_LISTS + BOOK_CLASSES, CELL_LISTS = PAIR_LISTS + PAIR_CLASSES,
-       PART_LISTS = CELL_LISTS + CELL_CLASSES, LISTS = PART_LISTS + PARTS };
+       FAILING_LISTS = CELL_LISTS + CELL_CLASSES, PART_LISTS = FAILING_LISTS + FAILING_CLASSES, LISTS = PART_LISTS + PARTS };
 
-/* A list has whole calls, or books to be written or read, or pairs of jobs, or runs of load cells, the word of its call, and how
- * many versions have it. */
+/* A list has whole calls, or books to be written or read, or pairs of jobs, or runs of load cells, or books under a sheet, the
+ * word of its call, and how many versions have it. */
 typedef struct List List;
 struct List {
     const char *name, *call;
@@ -45,6 +51,7 @@ struct List {
     const BookInput *book;
     const PairInput *pair;
     const CellInput *cell;
+    const FailingInput *failing;
     uint64_t (*pass)(const Version *, const List *);
 };
 
@@ -56,6 +63,8 @@ int has_aim(int which);
 const BookClass *book_class_of(int which);
 /* The class of load cells that a list has, or none. */
 const CellClass *cell_class_of(int which);
+/* The class of books with a first failing row that a list has, or none. */
+const FailingClass *failing_class_of(int which);
 /* The bytes of a list's books as they are written or read, on the mean. */
 double bytes_of(int which);
 /* Makes the inputs. */

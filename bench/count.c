@@ -19,20 +19,24 @@ static int number(const char *word, int most) {
 }
 
 static const char *kind_of(int which) {
-    return which >= PART_LISTS   ? "parts"
-           : which >= CELL_LISTS ? "cells"
-           : which >= PAIR_LISTS ? "pairs"
-           : which >= BOOK_LISTS ? "books"
-                                 : "calls";
+    return which >= PART_LISTS + PAIR_PARTS ? "book parts"
+           : which >= PART_LISTS            ? "parts"
+           : which >= FAILING_LISTS         ? "failing"
+           : which >= CELL_LISTS            ? "cells"
+           : which >= PAIR_LISTS            ? "pairs"
+           : which >= BOOK_LISTS            ? "books"
+                                            : "calls";
 }
 
-/* A list, for the scripts: name, kind, call, inputs, share of the mix, bytes of a book, records of a run, whether it has an aim. */
+/* A list, for the scripts: name, kind, call, inputs, share of the mix, bytes of a book, records of a run, rows of a book with a
+ * first failing row, whether it has an aim. */
 static void show_list(int which) {
     List list = list_of(which);
     double bytes = book_class_of(which) == NULL ? 0 : bytes_of(which);
     int records = cell_class_of(which) == NULL ? 0 : cell_class_of(which)->records;
-    printf("list;%s;%s;%s;%d;%d;%.0f;%d;%d\n", list.name, kind_of(which), list.call, list.count, share_of(which), bytes, records,
-           has_aim(which));
+    int rows = failing_class_of(which) == NULL ? 0 : failing_class_of(which)->rows;
+    printf("list;%s;%s;%s;%d;%d;%.0f;%d;%d;%d\n", list.name, kind_of(which), list.call, list.count, share_of(which), bytes, records,
+           rows, has_aim(which));
 }
 
 static void show_versions(void) {

@@ -165,7 +165,7 @@ static void show_cells(int rounds) {
     printf(" library, ns a record |");
     show_ratio_names();
     show_line(2 + 2 * version_count);
-    for (int k = CELL_LISTS; k < PART_LISTS; k++) {
+    for (int k = CELL_LISTS; k < FAILING_LISTS; k++) {
         int records = cell_class_of(k)->records;
         printf("| %s | %d |", lists[k].name, records);
         show_ns(k, rounds);
@@ -174,10 +174,22 @@ static void show_cells(int rounds) {
     }
 }
 
-static void show_parts(int rounds) {
-    printf("| of the accepted two jobs | library, ns |\n|---|---|\n");
-    for (int k = PART_LISTS; k < LISTS; k++)
-        printf("| %s | %.1f |\n", lists[k].name, median_ns(k, 0, rounds));
+static void show_failing(int rounds) {
+    printf("| books | rows |");
+    show_names("ns");
+    show_ratio_names();
+    show_line(1 + 2 * version_count);
+    for (int k = FAILING_LISTS; k < PART_LISTS; k++) {
+        printf("| %s | %d |", lists[k].name, failing_class_of(k)->rows);
+        show_ns(k, rounds);
+        show_ratios(k, rounds);
+    }
+}
+
+static void show_parts(const char *of, int first, int end, int rounds) {
+    printf("| %s | library, ns |\n|---|---|\n", of);
+    for (int part = first; part < end; part++)
+        printf("| %s | %.1f |\n", lists[PART_LISTS + part].name, median_ns(PART_LISTS + part, 0, rounds));
 }
 
 /* Two judgements are what two calls into no room have beside the readings; each examines the sheet. */
@@ -217,6 +229,27 @@ static void show_stretches(int rounds) {
     }
 }
 
+/* Of the lists with an aim the one of the greater ratio speaks for both. */
+static void show_failing_aim(int which) {
+    const double *none = &ratio_to[FAILING_LISTS + NONE_FAILS][which], *row_0 = &ratio_to[FAILING_LISTS + ROW_0_FAILS][which];
+    int most = FAILING_LISTS + (*row_0 > *none ? ROW_0_FAILS : NONE_FAILS);
+    printf("- time, first failing row: library / %s = %.3f at most, %s (aim: at most 1.00): %s\n", versions[which].name,
+           ratio_to[most][which], lists[most].name, ratio_to[most][which] <= 1.0 ? "met" : "NOT MET");
+}
+
+static void show_promise(const char *what, double call, double others) {
+    printf("- time, first failing row: %s = %.3f (aim: at most 1.05): %s\n", what, call / others,
+           call <= 1.05 * others ? "met" : "NOT MET");
+}
+
+/* What the call promises beside the library's other calls. The samples of two calls differ by some hundredths on their own. */
+static void show_promises(int rounds) {
+    double none = median_ns(FAILING_LISTS + NONE_FAILS, 0, rounds), row_0 = median_ns(FAILING_LISTS + ROW_0_FAILS, 0, rounds);
+    double read = median_ns(PART_LISTS + BOOK_READ, 0, rounds), one = median_ns(PART_LISTS + ROW_0_CALL, 0, rounds);
+    show_promise("200 rows that pass / a whole call on each", none, median_ns(PART_LISTS + ROW_CALLS, 0, rounds));
+    show_promise("row 0 of 200 fails / the book read and a whole call on that row", row_0, read + one);
+}
+
 static int inputs_compared(void) {
     int count = 0;
     for (int k = 0; k < PART_LISTS; k++)
@@ -247,9 +280,13 @@ int main(int words, char **word) {
     printf("\nThe call on a mild and a harsh job.\n\n");
     show_pairs(rounds);
     printf("\nWhat the library's calls on one job take of the same pairs.\n\n");
-    show_parts(rounds);
+    show_parts("of the accepted two jobs", TWO_CALLS, PAIR_PARTS, rounds);
     printf("\nThe call on load cells.\n\n");
     show_cells(rounds);
+    printf("\nThe call on the first failing row.\n\n");
+    show_failing(rounds);
+    printf("\nWhat the library's other calls take of the same books.\n\n");
+    show_parts("of the books of the first two lines", ROW_CALLS, PARTS, rounds);
     printf("\n");
     for (int k = 0; k < LISTS; k++)
         if (has_aim(k))
@@ -258,5 +295,8 @@ int main(int words, char **word) {
     for (int v = 1; v < version_count; v++)
         show_cell_aim(v);
     show_stretches(rounds);
+    for (int v = 1; v < version_count; v++)
+        show_failing_aim(v);
+    show_promises(rounds);
     return 0;
 }
