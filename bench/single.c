@@ -3,10 +3,11 @@
  * A line of jobs is a sheet's number (bench/vary.h) and the 25 numbers, or for write_support the 13. For a call on books it is
  * the number of rows, and the 25 numbers of each. For the call on two jobs the one job is both ends: what the call takes of two
  * ends is what it takes of each, and a job is accepted as the harsh end of itself. For the call on load cells it is the number
- * of records, w, and 25 records as numbers, which are sent over and over. With "step" each call's instructions are counted by
- * the processor's step trap and printed, the library's own and those of the memory functions. "single CALL inputs" sends every
- * input of bench/inputs.c, of bench/books.c, of bench/pairs.c or of bench/cells.c instead, and prints its class, and its numbers
- * and file where it is a job. */
+ * of records, w, and 25 records as numbers, which are sent over and over; for that on the first failing row the number of rows, a
+ * sheet's number, and the 25 numbers of each row. With "step" each call's instructions are counted by the processor's step trap
+ * and printed, the library's own and those of the memory functions. "single CALL inputs" sends every input of bench/inputs.c, of
+ * bench/books.c, of bench/pairs.c, of bench/cells.c or of bench/failing.c instead, and prints its class, and its numbers and file
+ * where it is a job. */
 #define _GNU_SOURCE
 #include <signal.h>
 #include <stdio.h>
@@ -16,6 +17,7 @@
 
 #include "books.h"
 #include "cells.h"
+#include "failing.h"
 #include "pairs.h"
 #include "vary.h"
 
@@ -23,7 +25,7 @@
 #error "instructions are counted by the x86-64 trap flag; measure another processor by its own means"
 #endif
 
-enum { VERDICT, WRITE, READ, WRITE_SUPPORT, WRITE_BOOK, READ_BOOK, BETWEEN, CELLS, CALLS };
+enum { VERDICT, WRITE, READ, WRITE_SUPPORT, WRITE_BOOK, READ_BOOK, BETWEEN, CELLS, FIRST_FAILING, CALLS };
 /* A number that no field takes may have five bytes. */
 enum { ROWS_MOST = REMBILUNG_BOOK_ROWS_MOST, BOOK_ROOM = 5 * REMBILUNG_NUMBERS * ROWS_MOST + 2 };
 /* A run has so many records, over and over. */
@@ -67,7 +69,8 @@ static void send(int which, const uint64_t argument[6], int step) {
     const uintptr_t function[CALLS] = {(uintptr_t)rembilung_verdict,       (uintptr_t)rembilung_write_job,
                                        (uintptr_t)rembilung_read_job,      (uintptr_t)rembilung_write_support,
                                        (uintptr_t)rembilung_write_book,    (uintptr_t)rembilung_read_book,
-                                       (uintptr_t)rembilung_between,       (uintptr_t)rembilung_cells};
+                                       (uintptr_t)rembilung_between,       (uintptr_t)rembilung_cells,
+                                       (uintptr_t)rembilung_first_failing};
     own = lent = 0;
     entry = function[which];
     call_it((const void *)entry, argument, step ? 0x100 : 0);
@@ -106,9 +109,15 @@ static void send_run(const CellInput *in, int step) {
     send(CELLS, argument, step);
 }
 
+static void send_failing(const uint8_t *sheet, const BookInput *in, int step) {
+    uint32_t answer[REMBILUNG_FIRST_FAILING_NUMBERS];
+    const uint64_t argument[6] = {(uintptr_t)sheet, REMBILUNG_SHEET_BYTES, (uintptr_t)in->book, in->book_len, (uintptr_t)answer};
+    send(FIRST_FAILING, argument, step);
+}
+
 static void usage(void) {
     fprintf(stderr, "usage: single CALL [step] < jobs, or single CALL inputs; CALL is 0 verdict, 1 write_job, 2 read_job, "
-                    "3 write_support, 4 write_book, 5 read_book, 6 between, 7 cells\n");
+                    "3 write_support, 4 write_book, 5 read_book, 6 between, 7 cells, 8 first_failing\n");
     exit(2);
 }
 
@@ -136,16 +145,31 @@ static int next_job(Input *in, int count) {
 }
 
 /* So many rows alike. */
-static int next_book(BookInput *in) {
+static void repeat_row(const uint32_t *row, int count, BookInput *in) {
     static uint32_t rows[REMBILUNG_NUMBERS * ROWS_MOST];
     static uint8_t book[BOOK_ROOM];
-    int count;
-    if (!next_line(1, ROWS_MOST, &count, rows, REMBILUNG_NUMBERS))
-        return 0;
-    for (int r = 1; r < count; r++)
-        memcpy(rows + REMBILUNG_NUMBERS_OF(r), rows, REMBILUNG_NUMBERS * sizeof *rows);
+    for (int r = 0; r < count; r++)
+        memcpy(rows + REMBILUNG_NUMBERS_OF(r), row, REMBILUNG_NUMBERS * sizeof *rows);
     *in = (BookInput){rows, REMBILUNG_NUMBERS_OF(count), book, pack_book(rows, (size_t)count, book)};
+}
+
+static int next_book(BookInput *in) {
+    uint32_t row[REMBILUNG_NUMBERS];
+    int count;
+    if (!next_line(1, ROWS_MOST, &count, row, REMBILUNG_NUMBERS))
+        return 0;
+    repeat_row(row, count, in);
     return 1;
+}
+
+/* The next line's book, and its sheet, any number going round the sheets that there are; none at the end. */
+static const uint8_t *next_failing(BookInput *in) {
+    uint32_t numbers[1 + REMBILUNG_NUMBERS];
+    int count;
+    if (!next_line(1, ROWS_MOST, &count, numbers, 1 + REMBILUNG_NUMBERS))
+        return NULL;
+    repeat_row(numbers + 1, count, in);
+    return sheet_number((int)(numbers[0] % SHEETS));
 }
 
 /* A record as a number: a push of half as many newtons, from 0 to 100,000, then a pull, then silence, and then no kind. */
@@ -218,6 +242,20 @@ static void send_runs(void) {
     }
 }
 
+static void send_failing_class(int class) {
+    for (int k = 0; k < failing_classes[class].count; k++) {
+        send_failing(failing[class][k].sheet, &failing[class][k].book, 0);
+        printf("%s;book %d\n", failing_classes[class].name, k);
+    }
+}
+
+/* The books are made here, since the whole call is asked of their rows: where that is counted, no other call of it may be. */
+static void send_all_failing(void) {
+    make_failing();
+    for (int class = 0; class < FAILING_CLASSES; class++)
+        send_failing_class(class);
+}
+
 static void send_job_lines(int which, int step) {
     static Input in;
     while (next_job(&in, which == WRITE_SUPPORT ? REMBILUNG_SUPPORT_NUMBERS : REMBILUNG_NUMBERS))
@@ -239,6 +277,12 @@ static void send_run_lines(int step) {
         send_run(&in, step);
 }
 
+static void send_failing_lines(int step) {
+    BookInput in;
+    for (const uint8_t *sheet = next_failing(&in); sheet != NULL; sheet = next_failing(&in))
+        send_failing(sheet, &in, step);
+}
+
 static int is_of_books(int which) {
     return which == WRITE_BOOK || which == READ_BOOK;
 }
@@ -246,6 +290,8 @@ static int is_of_books(int which) {
 static void send_inputs(int which) {
     if (which == CELLS)
         send_runs();
+    else if (which == FIRST_FAILING)
+        send_all_failing();
     else if (which == BETWEEN)
         send_pairs();
     else
@@ -255,6 +301,8 @@ static void send_inputs(int which) {
 static void send_lines(int which, int step) {
     if (which == CELLS)
         send_run_lines(step);
+    else if (which == FIRST_FAILING)
+        send_failing_lines(step);
     else
         (is_of_books(which) ? send_book_lines : send_job_lines)(which, step);
 }

@@ -4,6 +4,7 @@
 
 #include "books.h"
 #include "cells.h"
+#include "failing.h"
 #include "pairs.h"
 #include "vary.h"
 
@@ -12,7 +13,7 @@
 #endif
 
 enum { ROOM = 16384, RANDOM = 20000, RANDOM_BOOKS = 2000, RANDOM_RUNS = 2000 };
-enum { VERDICT, WRITE_JOB, READ_JOB, WRITE_SUPPORT, WRITE_BOOK, READ_BOOK, BETWEEN, CELLS, CALLS };
+enum { VERDICT, WRITE_JOB, READ_JOB, WRITE_SUPPORT, WRITE_BOOK, READ_BOOK, BETWEEN, CELLS, FIRST_FAILING, CALLS };
 /* A number that no field takes is longer than any that a book has. */
 enum { ROWS_MOST = REMBILUNG_BOOK_ROWS_MOST, BOOK_ROOM = REMBILUNG_BOOK_MOST + 8 };
 
@@ -31,6 +32,7 @@ static Depth depths[CALLS] = {
     [READ_JOB] = {"rembilung_read_job", 0, 0, ""},     [WRITE_SUPPORT] = {"rembilung_write_support", 0, 0, ""},
     [WRITE_BOOK] = {"rembilung_write_book", 0, 0, ""}, [READ_BOOK] = {"rembilung_read_book", 0, 0, ""},
     [BETWEEN] = {"rembilung_between", 0, 0, ""},       [CELLS] = {"rembilung_cells", 0, 0, ""},
+    [FIRST_FAILING] = {"rembilung_first_failing", 0, 0, ""},
 };
 
 /* Calls a function of up to six arguments on the painted stack; its return address is the first thing there. */
@@ -103,6 +105,12 @@ static void measure_reading(const BookInput *in, const char *where) {
     keep(READ_BOOK, depth_of((const void *)(uintptr_t)rembilung_read_book, arguments), where);
 }
 
+static void measure_first_failing(const uint8_t *sheet, size_t sheet_len, const BookInput *in, const char *where) {
+    uint32_t answer[REMBILUNG_FIRST_FAILING_NUMBERS];
+    const uint64_t arguments[6] = {(uintptr_t)sheet, sheet_len, (uintptr_t)in->book, in->book_len, (uintptr_t)answer};
+    keep(FIRST_FAILING, depth_of((const void *)(uintptr_t)rembilung_first_failing, arguments), where);
+}
+
 static void random_rows(uint32_t *rows, size_t count) {
     for (size_t r = 0; r < count; r++)
         any_job(rows + REMBILUNG_NUMBERS_OF(r));
@@ -121,6 +129,7 @@ static void measure_random_book(void) {
     const BookInput in = {rows, numbers, book, length};
     measure_writing(&in, "random and limit books");
     measure_reading(&in, "random and limit books");
+    measure_first_failing(sheet_number((int)from_to(0, SHEETS - 1)), REMBILUNG_SHEET_BYTES, &in, "random and limit books");
 }
 
 static void measure_inputs(void) {
@@ -133,6 +142,23 @@ static void measure_books(int class) {
     void (*measure_one)(const BookInput *, const char *) = book_classes[class].writes ? measure_writing : measure_reading;
     for (int k = 0; k < book_classes[class].count; k++)
         measure_one(&books[class][k], book_classes[class].name);
+}
+
+static void measure_failing(int class) {
+    for (int k = 0; k < failing_classes[class].count; k++) {
+        const FailingInput *in = &failing[class][k];
+        measure_first_failing(in->sheet, REMBILUNG_SHEET_BYTES, &in->book, failing_classes[class].name);
+    }
+}
+
+/* Every bad sheet of the whole calls too, before a book of one row. */
+static void measure_all_failing(void) {
+    for (int class = 0; class < FAILING_CLASSES; class++)
+        measure_failing(class);
+    for (int k = 0; k < CLASSES * PER_CLASS; k++) {
+        const Input *in = &inputs[k / PER_CLASS][k % PER_CLASS];
+        measure_first_failing(in->sheet, in->sheet_len, &failing[ONE_ROW][0].book, classes[k / PER_CLASS].name);
+    }
 }
 
 static void measure_all_books(void) {
@@ -213,10 +239,12 @@ int main(void) {
     make_books();
     make_pairs();
     make_cells();
+    make_failing();
     measure_inputs();
     measure_random(any_job, "random and limit jobs");
     measure_random(any_support, "random and limit supports");
     measure_all_books();
+    measure_all_failing();
     measure_pairs();
     measure_cells();
     for (int c = 0; c < CALLS; c++)
