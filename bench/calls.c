@@ -89,11 +89,17 @@ static uint64_t row_call(const Version *version, const FailingInput *in, size_t 
                             REMBILUNG_REPORT_MOST);
 }
 
+static uint64_t row_calls(const Version *version, const FailingInput *in) {
+    uint64_t sum = 0;
+    for (size_t row = 0; row < in->book.numbers / REMBILUNG_NUMBERS; row++)
+        sum += row_call(version, in, row);
+    return sum;
+}
+
 static uint64_t pass_row_calls(const Version *version, const List *list) {
     uint64_t sum = 0;
-    for (const FailingInput *in = list->failing; in < list->failing + list->count; in++)
-        for (size_t row = 0; row < in->book.numbers / REMBILUNG_NUMBERS; row++)
-            sum += row_call(version, in, row);
+    for (int k = 0; k < list->count; k++)
+        sum += row_calls(version, &list->failing[k]);
     return sum;
 }
 

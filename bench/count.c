@@ -35,8 +35,8 @@ static void show_list(int which) {
     double bytes = book_class_of(which) == NULL ? 0 : bytes_of(which);
     int records = cell_class_of(which) == NULL ? 0 : cell_class_of(which)->records;
     int rows = failing_class_of(which) == NULL ? 0 : failing_class_of(which)->rows;
-    printf("list;%s;%s;%s;%d;%d;%.0f;%d;%d;%d\n", list.name, kind_of(which), list.call, list.count, share_of(which), bytes, records,
-           rows, has_aim(which));
+    printf("list;%s;%s;%s;%d;%d;%.0f;%d;%d;%d\n", list.name, kind_of(which), list.call, list.count, share_of(which), bytes,
+           records, rows, has_aim(which));
 }
 
 static void show_versions(void) {

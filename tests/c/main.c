@@ -68,8 +68,8 @@ static void first_at_address(size_t shift) {
     memcpy(sheet, t.bytes, sizeof t.bytes);
     memcpy(book, own.at, own.length);
     memset(answer, 0, sizeof answer);
-    case_begins("the book of J %zu bytes after a multiple of 16, the sheet %zu, the answer %zu numbers into a buffer", other, shift,
-                number);
+    case_begins("the book of J %zu bytes after a multiple of 16, the sheet %zu, the answer %zu numbers into a buffer", other,
+                shift, number);
     result_is(rembilung_first_failing(sheet, sizeof t.bytes, book, own.length, answer + number), due);
     if (memcmp(answer + number, due.written.at, due.written.length) != 0)
         differs("the answer is not that of J");

@@ -1,5 +1,5 @@
-/* Fuzzes books: reading and writing against a plain way to the same, and the first failing row against a report on each row, every
- * buffer lent between guards; and what the host says of a book that is refused. */
+/* Fuzzes books: reading and writing against a plain way to the same, and the first failing row against a report on each row,
+ * every buffer lent between guards; and what the host says of a book that is refused. */
 #define _DEFAULT_SOURCE
 #include "book.h"
 
