@@ -34,8 +34,8 @@ extern const int version_count;
 
 /* The lists: the classes of whole calls, the mix of them, the classes of books, those of pairs, those of load cells, those of
  * books with a first failing row, what is done with the accepted pairs by the calls on one job, and what other calls do with the
- * books that have an aim, in this order: a whole call on each of the rows that pass; reading the book whose row 0 fails, and a
- * whole call on that row. */
+ * first two classes of those books, in this order: a whole call on each of the rows that pass; reading the book whose row 0 fails,
+ * and a whole call on that row. */
 enum { TWO_CALLS, INTO_NO_ROOM, TWO_READINGS, SHEET_ALONE, PAIR_PARTS };
 enum { ROW_CALLS = PAIR_PARTS, BOOK_READ, ROW_0_CALL, PARTS };
 enum { MIXED = CLASSES, BOOK_LISTS, PAIR_LISTS = BOOK_LISTS + BOOK_CLASSES, CELL_LISTS = PAIR_LISTS + PAIR_CLASSES,

@@ -4,7 +4,7 @@
 
 #include "books.h"
 
-/* The first two classes have an aim: no row of 200 fails, and row 0 of 200 does. */
+/* On the first two classes the library's other calls are measured too: no row of 200 fails, and row 0 of 200 does. */
 enum { NONE_FAILS, ROW_0_FAILS, ROW_100_FAILS, NONE_OF_20_FAILS, ONE_ROW, NO_BYTES, END_DAMAGED, LAST_ROW_BAD, FAILING_CLASSES };
 
 /* A row as a job file, for the whole call that it is held to. */

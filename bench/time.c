@@ -229,12 +229,11 @@ static void show_stretches(int rounds) {
     }
 }
 
-/* Of the lists with an aim the one of the greater ratio speaks for both. */
-static void show_failing_aim(int which) {
-    const double *none = &ratio_to[FAILING_LISTS + NONE_FAILS][which], *row_0 = &ratio_to[FAILING_LISTS + ROW_0_FAILS][which];
-    int most = FAILING_LISTS + (*row_0 > *none ? ROW_0_FAILS : NONE_FAILS);
-    printf("- time, first failing row: library / %s = %.3f at most, %s (aim: at most 1.00): %s\n", versions[which].name,
-           ratio_to[most][which], lists[most].name, ratio_to[most][which] <= 1.0 ? "met" : "NOT MET");
+/* To plain C the call has no aim. */
+static void show_failing_ratios(int which) {
+    for (int class = NONE_FAILS; class <= ROW_0_FAILS; class++)
+        printf("- time, first failing row: %s, library / %s = %.3f\n", failing_classes[class].name, versions[which].name,
+               ratio_to[FAILING_LISTS + class][which]);
 }
 
 static void show_promise(const char *what, double call, double others) {
@@ -296,7 +295,7 @@ int main(int words, char **word) {
         show_cell_aim(v);
     show_stretches(rounds);
     for (int v = 1; v < version_count; v++)
-        show_failing_aim(v);
+        show_failing_ratios(v);
     show_promises(rounds);
     return 0;
 }
