@@ -59,7 +59,7 @@ impl Model for BoundedJob {
 
 impl BoundedJob {
     // A job as it is read, before anything else about it is examined.
-    // requires: try_from shows it by examining the job.
+    // requires: try_from shows it by examining the job, the search for a failing row by having examined the whole book.
     pub fn read(j: Job) -> BoundedJob
         requires { Bounds j }
         ensures { result ≡ as_read j }
