@@ -2,9 +2,11 @@
 #include "book.h"
 
 #include <inttypes.h>
+#include <string.h>
 
 #include "explain.h"
 #include "fields.h"
+#include "refuse.h"
 
 const char book_takes[] = "only scaffold jobs go into a book";
 
@@ -35,10 +37,20 @@ uint64_t refusal_of_row(const uint32_t *numbers) {
     return rembilung_write_job(numbers, file, sizeof file);
 }
 
-/* Cut off there, a book that goes on has all its numbers, and any other lacks one. */
-static int goes_on_at(const uint8_t *book, uint32_t place) {
+/* What the library answers to reading a book with room enough. */
+static uint64_t read_book(const uint8_t *book, size_t length) {
     static uint32_t rows[REMBILUNG_NUMBERS_OF(REMBILUNG_BOOK_ROWS_MOST)];
-    return rembilung_refusal(rembilung_read_book(book, place, rows, sizeof rows / sizeof rows[0])) != 9;
+    return rembilung_read_book(book, length, rows, sizeof rows / sizeof rows[0]);
+}
+
+/* No bytes are a book too, but nothing tells them from an empty table. */
+int is_book(const uint8_t *bytes, size_t length) {
+    return length > 0 && !rembilung_refused(read_book(bytes, length));
+}
+
+/* Cut off there, a book that goes on has all its numbers, and any other lacks one; but no bytes at all are a book. */
+static int goes_on_at(const uint8_t *book, size_t length, uint32_t place) {
+    return place > 0 && place <= length && rembilung_refusal(read_book(book, place)) != 9;
 }
 
 static void add_row(Text *to, const uint8_t *book, size_t length, uint32_t row) {
@@ -51,11 +63,34 @@ static void add_row(Text *to, const uint8_t *book, size_t length, uint32_t row) 
 
 void explain_book(Text *to, uint64_t result, const uint8_t *book, size_t length) {
     uint32_t refusal = rembilung_refusal(result), place = rembilung_place(result);
-    if (refusal == 9 && goes_on_at(book, place)) {
+    if (refusal == 9 && goes_on_at(book, length, place)) {
         text_add(to, "the book goes on after its last number, from offset %" PRIu32, place);
         return;
     }
     explain(to, result, &scaffold, NULL);
     if (refusal == 11)
         add_row(to, book, length, place);
+}
+
+/* No text has it. */
+static int is_control(uint8_t byte) {
+    return (byte < ' ' && byte != '\t' && byte != '\n' && byte != '\r') || byte == 0x7F;
+}
+
+/* As CSV a table is a text with a separator or a line end; as a spreadsheet program saves its own it begins as a zip does. */
+static int may_be_table(const uint8_t *bytes, size_t length) {
+    static const char parting[] = ",;\t\r\n";
+    size_t at = 0;
+    int parted = 0;
+    while (at < length && !is_control(bytes[at]))
+        parted |= memchr(parting, bytes[at++], sizeof parting - 1) != NULL;
+    return (at == length && parted) || (length >= 4 && memcmp(bytes, "PK\3\4", 4) == 0);
+}
+
+int refuse_book(uint64_t result, const uint8_t *book, size_t length, const char *if_table) {
+    Text words = {{0}, 0};
+    explain_book(&words, result, book, length);
+    if (may_be_table(book, length))
+        text_add(&words, "; the file may be a table, which %s", if_table);
+    return refuse_in_words(rembilung_refusal(result), rembilung_place(result), &words);
 }

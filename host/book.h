@@ -20,7 +20,13 @@ uint64_t refusal_of_row(const uint32_t *numbers);
 /* Of what kind of job a book is. */
 extern const char book_takes[];
 
-/* Says why the library would not read a book. */
+/* Whether the library takes these bytes, one at least, for a book. */
+int is_book(const uint8_t *bytes, size_t length);
+
+/* Says why the library refused a book. */
 void explain_book(Text *to, uint64_t result, const uint8_t *book, size_t length);
+
+/* Refuses it in these words, with what becomes of a table where the file may be one; the answer is the exit status. */
+int refuse_book(uint64_t result, const uint8_t *book, size_t length, const char *if_table);
 
 #endif

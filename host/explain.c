@@ -54,7 +54,10 @@ static void say_file(Text *to, uint32_t refusal, uint32_t place, const Kind *kin
 }
 
 static void say_book(Text *to, uint32_t refusal, uint32_t place) {
-    if (refusal == 9)
+    if (refusal == 9 && place == 0)
+        text_add(to, "the book is damaged at offset 0: the number of its rows is cut off, not in its shortest form or above "
+                     "4294967295");
+    else if (refusal == 9)
         say_damaged(to, "book", place);
     else if (refusal == 10)
         text_add(to, "the book has %" PRIu32 " rows, and a book has at most %d", place, REMBILUNG_BOOK_ROWS_MOST);

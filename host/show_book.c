@@ -6,14 +6,7 @@
 #include "columns.h"
 #include "commands.h"
 #include "files.h"
-#include "refuse.h"
 #include "status.h"
-
-static int refuse_book(uint64_t result, const uint8_t *book, size_t length) {
-    Text words = {{0}, 0};
-    explain_book(&words, result, book, length);
-    return refuse_in_words(rembilung_refusal(result), rembilung_place(result), &words);
-}
 
 static void print_row(FILE *to, size_t row, const uint32_t *numbers) {
     fprintf(to, "%zu", row);
@@ -35,7 +28,7 @@ static int show(const uint8_t *book, size_t length, const char *path) {
     Output output;
     uint64_t read = rembilung_read_book(book, length, numbers, sizeof numbers / sizeof numbers[0]);
     if (rembilung_refused(read))
-        return refuse_book(read, book, length);
+        return refuse_book(read, book, length, "book pack makes a book of");
     if (!open_output(&output, path))
         return UNUSABLE;
     print_table(output.to, numbers, (size_t)read);

@@ -5,7 +5,7 @@
 #include <stdint.h>
 #include <stdio.h>
 
-/* Of what is shown, no more bytes than these. */
+/* Of what is shown, the last character begins before this byte, and has at most four. */
 #define SHOWN_MOST 40
 
 void text_add(Text *text, const char *format, ...) {

@@ -6,6 +6,8 @@
 
 /* Longer than any message that the program makes. */
 #define TEXT_ROOM 1024
+/* No byte of what is shown after these changes what is shown of it. */
+#define SHOWN_ROOM 44
 
 /* Always closed by a zero byte; an empty one is made by {0}. */
 typedef struct {
