@@ -41,13 +41,8 @@ static void heed_signals(void) {
 
 /* A damaged sheet is refused before any row; the library says whether it is. */
 static int prepare_sheet(const char *path, Sheet *sheet) {
-    if (path == NULL) {
-        example_sheet(sheet);
-        fputs("rembilung: judged under the example sheet C; before it counts, compare it with the printed code, "
-              "or name a sheet with --sheet\n", stderr);
-    } else if (!read_sheet(sheet, path)) {
+    if (!sheet_for_depot(sheet, path))
         return 0;
-    }
     uint64_t checked = check_sheet(sheet->bytes, sheet->length);
     if (!rembilung_refused(checked))
         return 1;

@@ -36,30 +36,10 @@ void print_outcomes(FILE *to, const uint32_t *answer) {
     fputs(" stability at the mild and at the harsh end, cm\n", to);
 }
 
-static int count_of(const uint32_t *answer, uint32_t outcome) {
-    int count = 0;
-    for (int k = 0; k < CHECKS; k++)
-        count += answer[k] == outcome;
-    return count;
-}
-
-/* Begins the sentence with the checks of one outcome, as "checks 7, 8 and 11". */
-static void say_checks(FILE *said, const uint32_t *answer, uint32_t outcome) {
-    int left = count_of(answer, outcome);
-    const char *before = left == 1 ? "check " : "checks ";
-    fputs("rembilung: ", said);
-    for (int k = 0; k < CHECKS; k++) {
-        if (answer[k] != outcome)
-            continue;
-        fprintf(said, "%s%d", before, k + 1);
-        before = --left == 1 ? " and " : ", ";
-    }
-}
-
 static void say_changed(FILE *said, const uint32_t *answer) {
     say_checks(said, answer, REMBILUNG_FAILS_THROUGHOUT);
     fprintf(said, " %s for every accepted job between the two ends: whatever is found there, the scaffold has to be changed\n",
-            count_of(answer, REMBILUNG_FAILS_THROUGHOUT) == 1 ? "fails" : "fail");
+            count_checks(answer, REMBILUNG_FAILS_THROUGHOUT) == 1 ? "fails" : "fail");
 }
 
 /* The numbers that differ where a check may hang on it, from the mild end to the harsh. */
@@ -76,7 +56,7 @@ static void say_open(FILE *said, const uint32_t *mild, const uint32_t *harsh) {
 }
 
 static void say_undecided(FILE *said, const uint32_t *answer, const uint32_t *mild, const uint32_t *harsh) {
-    int one = count_of(answer, REMBILUNG_UNDECIDED) == 1;
+    int one = count_checks(answer, REMBILUNG_UNDECIDED) == 1;
     say_checks(said, answer, REMBILUNG_UNDECIDED);
     fprintf(said, " %s at the mild end and %s at the harsh end, and %s for what is found of", one ? "passes" : "pass",
             one ? "fails" : "fail", one ? "waits" : "wait");
@@ -84,11 +64,11 @@ static void say_undecided(FILE *said, const uint32_t *answer, const uint32_t *mi
 }
 
 void say_conclusion(FILE *said, const uint32_t *answer, const uint32_t *mild, const uint32_t *harsh) {
-    if (count_of(answer, REMBILUNG_FAILS_THROUGHOUT) > 0)
+    fputs("rembilung: ", said);
+    if (count_checks(answer, REMBILUNG_FAILS_THROUGHOUT) > 0)
         say_changed(said, answer);
-    else if (count_of(answer, REMBILUNG_UNDECIDED) > 0)
+    else if (count_checks(answer, REMBILUNG_UNDECIDED) > 0)
         say_undecided(said, answer, mild, harsh);
     else
-        fputs("rembilung: no check fails for any accepted job between the two ends: whatever is found there, the scaffold "
-              "passes\n", said);
+        fputs("no check fails for any accepted job between the two ends: whatever is found there, the scaffold passes\n", said);
 }

@@ -1,9 +1,10 @@
-/* Reads the library's report. */
+/* Asks the library for a report, and reads one. */
 #include "report.h"
 
 #include <string.h>
 
 #include "number.h"
+#include "rembilung.h"
 
 const char *const check_names[CHECKS] = {
     "transom moment",
@@ -76,6 +77,14 @@ static void take_heights(Rest *rest, Report *report) {
     report->permitted = take_number(rest, '\n');
 }
 
+uint64_t report_on(const uint8_t *sheet, size_t sheet_length, const uint32_t *numbers, uint8_t report[REMBILUNG_REPORT_MOST]) {
+    uint8_t file[REMBILUNG_FILE_MOST];
+    uint64_t made = rembilung_write_job(numbers, file, sizeof file);
+    if (rembilung_refused(made))
+        return made;
+    return rembilung_verdict(sheet, sheet_length, file, (size_t)made, report, REMBILUNG_REPORT_MOST);
+}
+
 int read_report(const uint8_t *bytes, size_t length, const Kind *kind, Report *report) {
     Rest rest = {(const char *)bytes, length, 1};
     memset(report, 0, sizeof *report);
@@ -96,4 +105,22 @@ int first_failing(const Report *report) {
     while (k < CHECKS && report->verdicts[k] != FAILS)
         k++;
     return k < CHECKS ? k + 1 : 0;
+}
+
+int count_checks(const uint32_t *row, uint32_t number) {
+    int count = 0;
+    for (int k = 0; k < CHECKS; k++)
+        count += row[k] == number;
+    return count;
+}
+
+void say_checks(FILE *said, const uint32_t *row, uint32_t number) {
+    int left = count_checks(row, number);
+    const char *before = left == 1 ? "check " : "checks ";
+    for (int k = 0; k < CHECKS; k++) {
+        if (row[k] != number)
+            continue;
+        fprintf(said, "%s%d", before, k + 1);
+        before = --left == 1 ? " and " : ", ";
+    }
 }

@@ -20,6 +20,9 @@ void test_sheet(Sheet *sheet);
 /* 1 where the file was read; where it was not, the reason was said on standard error. */
 int read_sheet(Sheet *sheet, const char *path);
 
+/* The same; where no file was named, its path being null, the sheet is C, and that is said. */
+int sheet_for_depot(Sheet *sheet, const char *path);
+
 /* What the library says of a sheet: 0, or its refusal 1 or 2 with the place. */
 uint64_t check_sheet(const uint8_t *bytes, size_t length);
 

@@ -41,11 +41,9 @@ static void finish_judged(Table *table, const uint32_t *numbers, const Report *r
 }
 
 static void judge_numbers(Table *table, const uint32_t *numbers, Answer *answer) {
-    uint8_t file[REMBILUNG_FILE_MOST], bytes[REMBILUNG_REPORT_MOST];
+    uint8_t bytes[REMBILUNG_REPORT_MOST];
     Report report;
-    uint64_t result = rembilung_write_job(numbers, file, sizeof file);
-    if (!rembilung_refused(result))
-        result = rembilung_verdict(table->sheet, table->sheet_length, file, (size_t)result, bytes, sizeof bytes);
+    uint64_t result = report_on(table->sheet, table->sheet_length, numbers, bytes);
     if (rembilung_refused(result)) {
         finish_refused(table, numbers, result, answer);
         return;
