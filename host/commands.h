@@ -13,6 +13,8 @@ int depot(Words words);
 /* A season's book from such a table, and back; their names have two words, book pack and book show. */
 int pack_book(Words words);
 int show_book(Words words);
+/* The first row of a season's book, or of such a table, that has a failed check. */
+int first_failing_row(Words words);
 /* The records of a load cell, and for each the greatest push among the last. */
 int load_cells(Words words);
 /* A column sheet from text, and back. */

@@ -49,6 +49,7 @@ static const Command commands[] = {
     {"between", between},
     {"depot", depot},
     {"book", book},
+    {"first-failing", first_failing_row},
     {"cells", load_cells},
     {"pack-sheet", pack_sheet},
     {"show-sheet", show_sheet},
