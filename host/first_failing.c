@@ -26,18 +26,12 @@ typedef struct {
     const Packing *table;
 } Season;
 
-static int refuse_season(uint64_t result, const Season *season) {
-    if (rembilung_refusal(result) <= 2)
-        return refuse(result, &scaffold, NULL);
-    return refuse_book(result, season->book, season->length, "is named after --table");
-}
-
 static int judge(const Sheet *sheet, const Season *season) {
     uint32_t answer[REMBILUNG_FIRST_FAILING_NUMBERS] = {0};
     Found found;
     uint64_t done = rembilung_first_failing(sheet->bytes, sheet->length, season->book, season->length, answer);
     if (rembilung_refused(done))
-        return refuse_season(done, season);
+        return refuse_book(done, season->book, season->length, "is named after --table");
     if (done != REMBILUNG_FIRST_FAILING_NUMBERS || !look_up(&found, answer, sheet, season->book, season->length))
         return unknown_answer();
     print_found(stdout, &found);
