@@ -86,34 +86,38 @@ REFUSED = [
 ]
 
 EMPTY = ["rembilung: the table is empty; a book of no rows is made from the row of names alone"]
-NO_BOOK = ["rembilung: no book was made"]
+# What is not done, by each command that makes a book of a table.
+PACK, JUDGE = "no book was made", "no row was judged"
 
 
-def unread(number):
-    return [f"rembilung: rows that cannot be read: {number}; no book was made"]
+def unread(number, undone=PACK):
+    return [f"rembilung: rows that cannot be read: {number}; {undone}"]
 
 
-def of_bad_row(answer, words):
+def of_bad_row(answer, words, undone=PACK):
     """What is due for a table of J, a bad row of tables.BAD as row 3, and J: status, standard output, standard error."""
     number = int(answer.split(",")[3] or 0)
     if not number:
-        return 2, "", [words] + unread(1)
+        return 2, "", [words] + unread(1, undone)
     out, said = row_refused(3, 1, words.split(": ", 2)[2])
     return 1, out, [line + (SUPPORT if "family, is 3;" in line else "") for line in said]
 
 
-def of_unusable(said):
+def of_unusable(said, undone=PACK):
     """Standard error for a table that depot cannot use, from what depot says of it."""
     if said == tables.NO_ROWS:
         return EMPTY
-    own = [line.replace(tables.LAST, "").replace("carried into the answers as the name", "passed over") for line in said]
+    own = [line.replace(tables.LAST, "") for line in said]
+    if undone == PACK:
+        own = [line.replace("carried into the answers as the name", "passed over") for line in own]
     rows = sum(", unreadable: " in line for line in own)
-    return own + (unread(rows) if rows else NO_BOOK)
+    return own + (unread(rows, undone) if rows else [f"rembilung: {undone}"])
 
 
 TABLE_HEAD = "book row," + HEAD
 # Books that are shown as tables.
 SHOWN = [
+    ("no bytes", b"", lines(TABLE_HEAD)),
     ("no rows", NONE, lines(TABLE_HEAD)),
     ("J", ONE_J, lines(TABLE_HEAD, "0," + J)),
     ("half closed, 29.9 % shielded", ONE_SHIELDED, lines(TABLE_HEAD, "0," + SHIELDED)),
@@ -124,8 +128,9 @@ SHOWN = [
 
 
 def damaged(offset):
-    return f"refused 9 {offset}\n", (f"rembilung: the book is damaged at offset {offset}: the number there is missing, cut off, "
-                                     "not in its shortest form or above 4294967295")
+    number = "the number there is missing, cut off" if offset else "the number of its rows is cut off"
+    return f"refused 9 {offset}\n", (f"rembilung: the book is damaged at offset {offset}: {number}, not in its shortest form or "
+                                     "above 4294967295")
 
 
 def goes_on(offset):
@@ -155,8 +160,8 @@ def changed_two(*changes):
 
 # Books that are refused, with status 1: standard output and standard error.
 DAMAGED = [
-    ("nothing", b"", damaged(0)),
     ("a count cut off", b"\xc8", damaged(0)),
+    ("a count cut off after four bytes", b"\x80\x80\x80\x80", damaged(0)),
     ("a count in a longer form", b"\x80\x00", damaged(0)),
     ("a count above 32 bits", b"\xff\xff\xff\xff\x10", damaged(0)),
     ("a count and nothing else", b"\x01", damaged(1)),
@@ -193,7 +198,59 @@ DAMAGED = [
 ]
 
 
+# Files that may be tables, given as books, and others that are neither: standard output, standard error, and whether it is said.
+MISTAKEN = [
+    ("a table", lines(HEAD, J).encode(), damaged(len(lines(HEAD, J))), True),
+    # It begins with f, 102, and so would have 2550 numbers more.
+    ("a longer table", lines(HEAD, *[J] * 40).encode(), goes_on(2551), True),
+    ("a table with semicolons", lines(HEAD, J).replace(",", ";").encode(), damaged(len(lines(HEAD, J))), True),
+    ("a table with tabs", lines(HEAD, J).replace(",", "\t").encode(), damaged(len(lines(HEAD, J))), True),
+    ("a table in UTF-8", lines("fa\u00e7ade," + HEAD).encode(), damaged(len(HEAD) + 9), True),
+    # EF BB BF and f are 111 + 59 x 128 + 63 x 16384 + 102 x 2097152.
+    ("a byte order mark", b"\xef\xbb\xbf" + lines(HEAD, J).encode(), rows_are(214949359), True),
+    # It begins with 1, 49, and a comma, 44.
+    ("a table as long as a book", (lines(J) * 20).encode()[:1226],
+     row_is(0, "number 1, family, is 44; it may be 1 (double row) or 2 (single row)"), True),
+    ("a number and a line end", b"7\n", damaged(2), True),
+    # P is 80.
+    ("a spreadsheet's own file", b"PK\3\4" + bytes(26), damaged(30), True),
+    ("three bytes of its mark", b"PK\3", damaged(3), False),
+    ("another fourth byte", b"PK\3\5" + bytes(26), damaged(30), False),
+    ("a word", b"season", damaged(6), False),
+    ("a table with a control", lines(HEAD, "\x1b" + J).encode(), damaged(len(lines(HEAD, J)) + 1), False),
+    ("a table with the control 7F", lines(HEAD, "\x7f" + J).encode(), damaged(len(lines(HEAD, J)) + 1), False),
+    # FF FE and f are 127 + 126 x 128 + 102 x 16384.
+    ("UTF-16", lines(HEAD, J).encode("utf-16"), rows_are(1687423), False),
+]
+
+ZERO_BYTE = ["rembilung: row 1, damaged: column A: a zero byte stands in the row; export the table as CSV in UTF-8"]
+# Books, and what is none, given as tables: what is said before it is said that nothing is done, and whether it is a book.
+NO_TABLES = [
+    ("a book", TWO, ZERO_BYTE, True),
+    ("a book of no rows", NONE, ZERO_BYTE, True),
+    # Its first number of 10 is a line end.
+    ("the longest book", MOST_200, tables.NEITHER, True),
+    ("a damaged book", TWO[:-1], ZERO_BYTE, False),
+    ("a book that goes on", TWO + b"\0", ZERO_BYTE, False),
+    ("a book, and 65536 bytes", TWO + bytes(65536), ZERO_BYTE, False),
+    ("a job file", bytes.fromhex("".join(J_GROUPS)), ZERO_BYTE, False),
+]
+
+
 def book_of(jobs):
     """The book of jobs, each a list of 25 numbers, as the papers have it."""
     columns = zip(*jobs)
     return given.groups(len(jobs)) + b"".join(given.groups(number) for column in columns for number in column)
+
+
+def rows_of(data):
+    """The rows of a book as lists of numbers, whatever they are; nothing where it has not the numbers of as many as it counts."""
+    numbers, at = [], 0
+    while at < len(data):
+        found = given.number_at(data, at)
+        if found is None:
+            return None
+        numbers, at = numbers + [found[0]], found[1]
+    count = numbers[0] if numbers else 0
+    whole = len(numbers) == 1 + 25 * count or not numbers
+    return [numbers[1 + row::count] for row in range(count)] if whole else None
