@@ -1,5 +1,5 @@
-/* Fuzzes the first failing row: of any bytes as a book, and as a table, it is the first row of whose report a check fails, or what is
- * refused of reading the book; and what the host prints and says of it. */
+/* Fuzzes the first failing row: of any bytes as a book, and as a table, it is the first row of whose report a check fails, or
+ * what is refused of reading the book; and what the host prints and says of it. */
 #define _DEFAULT_SOURCE
 #include "found.h"
 
@@ -77,6 +77,7 @@ static void as_book(const Sheet *sheet, const uint8_t *book, size_t length, cons
     uint32_t answer[REMBILUNG_FIRST_FAILING_NUMBERS];
     uint64_t read = rembilung_read_book(book, length, rows, sizeof rows / sizeof rows[0]);
     uint64_t due = rembilung_refused(read) ? read : REMBILUNG_FIRST_FAILING_NUMBERS;
+    MUST(length > 0 || read == 0);
     MUST(ask(sheet, book, length, answer, 0) == due && ask(sheet, book, length, answer, 1) == due);
     if (rembilung_refused(read))
         return;
@@ -139,6 +140,13 @@ static void made_table(const Sheet *sheet, const uint8_t *data, size_t size) {
     free(text);
 }
 
+static void under(const Sheet *sheet, const uint8_t *data, size_t size) {
+    as_book(sheet, data, size, NULL);
+    as_table(sheet, (const char *)data, size);
+    if (size > FRONT && data[0] == MADE)
+        made_table(sheet, data, size);
+}
+
 int LLVMFuzzerTestOneInput(const uint8_t *data, size_t size) {
     static Sheet sheet;
     if (size > GUARDED_BYTES - MARKED_BYTES)
@@ -147,10 +155,9 @@ int LLVMFuzzerTestOneInput(const uint8_t *data, size_t size) {
         guard(&lent_book);
         guard(&lent_answer);
     }
-    (size % 2 == 0 ? test_sheet : example_sheet)(&sheet);
-    as_book(&sheet, data, size, NULL);
-    as_table(&sheet, (const char *)data, size);
-    if (size > FRONT && data[0] == MADE)
-        made_table(&sheet, data, size);
+    test_sheet(&sheet);
+    under(&sheet, data, size);
+    example_sheet(&sheet);
+    under(&sheet, data, size);
     return 0;
 }
