@@ -12,8 +12,7 @@
 #define NUMBERS_MOST REMBILUNG_NUMBERS_OF(ROWS_MOST + 1)
 #define REFUSED_WITH(refusal, place) ((uint64_t)(refusal) << 32 | (uint64_t)(place))
 
-static Guarded lent_book, lent_rows;
-static const uint8_t no_rows[] = {0};
+static Guarded lent_book, lent_rows, lent_sheet, lent_answer;
 
 /* A book as a plain reader finds it: rows as far as they are there, and where they end or are damaged. */
 typedef struct {
@@ -61,7 +60,7 @@ static size_t bad_row(const uint32_t *rows, size_t count) {
     return row;
 }
 
-/* What is due for reading a book with room enough; the room is tried last. No bytes are no rows. */
+/* What is due for reading a book with room enough; the room is tried last. A book of no bytes has no rows. */
 static uint64_t plain_read(Plain *plain) {
     uint64_t count = plain->length == 0 ? 0 : plain_number(plain);
     if (plain->damaged)
@@ -167,15 +166,15 @@ static void explained(const uint8_t *book, const Plain *plain, uint64_t due) {
         same_row(book, plain, rembilung_place(due));
 }
 
-/* What was read writes back as the same bytes; no bytes do as the count 0. */
+/* What was read writes back as the same bytes, and no rows as one byte 0. */
 static void back(const uint8_t *book, const Plain *plain) {
     static const uint8_t no_rows[1];
     static Season season;
-    size_t length = plain->length == 0 ? 1 : plain->length;
+    const uint8_t *bytes = plain->length == 0 ? no_rows : plain->bytes;
     memcpy(season.rows, plain->rows, REMBILUNG_NUMBERS_OF(plain->count) * sizeof season.rows[0]);
     season.count = plain->count;
     expect(&season);
-    MUST(season.due == length && memcmp(season.book, plain->length == 0 ? no_rows : plain->bytes, length) == 0);
+    MUST(season.due == (plain->length == 0 ? 1 : plain->length) && memcmp(season.book, bytes, season.due) == 0);
     if (plain->count > 0)
         same_row(book, plain, plain->count - 1);
     write_into_all(&season);

@@ -1,10 +1,9 @@
-/* Fuzzes the first failing row: of any bytes as a book, and as a table, it is the first row of whose report a check fails, or
- * what is refused of reading the book; and what the host prints and says of it. */
-#define _DEFAULT_SOURCE
+/* Fuzzes what the host makes of the first failing row: of any bytes as a table, and as a book, it is the first row of whose report
+ * a check fails, and no other answer is taken for one; and what is printed and said of it. */
+#define _POSIX_C_SOURCE 200809L
 #include "found.h"
 
 #include "columns.h"
-#include "guarded.h"
 #include "jobs.h"
 #include "printed.h"
 #include "rembilung.h"
@@ -13,8 +12,6 @@
 
 /* A front of three bytes says what is made of the rest: this one, how many rows, and how long their names are. */
 enum { FRONT = 3, MADE = 0xFE };
-
-static Guarded lent_book, lent_answer;
 
 /* The first row of whose report a check fails, or how many rows there are. */
 static uint32_t first_by_reports(const Sheet *sheet, const uint32_t *rows, uint32_t count) {
@@ -27,18 +24,6 @@ static uint32_t first_by_reports(const Sheet *sheet, const uint32_t *rows, uint3
         failing = first_failing(&report) > 0;
     }
     return row;
-}
-
-/* Asks with both buffers between guards: nothing is written but an answer. */
-static uint64_t ask(const Sheet *sheet, const uint8_t *bytes, size_t length, uint32_t *answer, int at_end) {
-    uint8_t *book = lend(&lent_book, length, at_end);
-    uint32_t *lent = lend(&lent_answer, REMBILUNG_FIRST_FAILING_NUMBERS * sizeof lent[0], !at_end);
-    memcpy(book, bytes, length);
-    uint64_t result = rembilung_first_failing(sheet->bytes, sheet->length, book, length, lent);
-    size_t written = rembilung_refused(result) ? 0 : REMBILUNG_FIRST_FAILING_NUMBERS * sizeof lent[0];
-    MUST(untouched(&lent_book, length) && memcmp(book, bytes, length) == 0 && untouched(&lent_answer, written));
-    memcpy(answer, lent, REMBILUNG_FIRST_FAILING_NUMBERS * sizeof lent[0]);
-    return result;
 }
 
 static size_t lines_of(const char *text) {
@@ -72,13 +57,13 @@ static void answered(const Sheet *sheet, const uint8_t *book, size_t length, con
     shown(&found, table);
 }
 
+/* The harness on books lends the call its buffers between guards. */
 static void as_book(const Sheet *sheet, const uint8_t *book, size_t length, const Packing *table) {
     static uint32_t rows[REMBILUNG_NUMBERS_OF(ROWS_MOST)];
     uint32_t answer[REMBILUNG_FIRST_FAILING_NUMBERS];
     uint64_t read = rembilung_read_book(book, length, rows, sizeof rows / sizeof rows[0]);
-    uint64_t due = rembilung_refused(read) ? read : REMBILUNG_FIRST_FAILING_NUMBERS;
-    MUST(length > 0 || read == 0);
-    MUST(ask(sheet, book, length, answer, 0) == due && ask(sheet, book, length, answer, 1) == due);
+    uint64_t done = rembilung_first_failing(sheet->bytes, sheet->length, book, length, answer);
+    MUST((length > 0 || read == 0) && done == (rembilung_refused(read) ? read : REMBILUNG_FIRST_FAILING_NUMBERS));
     if (rembilung_refused(read))
         return;
     uint32_t row = first_by_reports(sheet, rows, (uint32_t)read);
@@ -149,12 +134,6 @@ static void under(const Sheet *sheet, const uint8_t *data, size_t size) {
 
 int LLVMFuzzerTestOneInput(const uint8_t *data, size_t size) {
     static Sheet sheet;
-    if (size > GUARDED_BYTES - MARKED_BYTES)
-        return 0;
-    if (lent_book.bytes == NULL) {
-        guard(&lent_book);
-        guard(&lent_answer);
-    }
     test_sheet(&sheet);
     under(&sheet, data, size);
     example_sheet(&sheet);
