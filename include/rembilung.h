@@ -262,7 +262,8 @@ uint64_t rembilung_write_book(const uint32_t *rows, size_t numbers,
                               uint8_t *book, size_t book_len);
 
 /* Reads a book into lent rows, of which there are numbers / 25. A book of no bytes at all is an empty season: no rows.
- * What is read writes back as the same bytes, but for that one: no rows are written as one byte, 00.
+ * What is read writes back as the same bytes, but for that one: no rows are written as one byte, 00. So a host that could
+ * not read a file must not lend no bytes for it: they are no refusal here, nor in rembilung_first_failing.
  * Returns the number of rows, from 0 to 200, and writes that many; what stands after them is as it was. Or a refusal: 9 at
  * 0 where the count itself is damaged, 10 as soon as the count is read, whatever follows, then 9 of the numbers and what
  * follows them, then 11, then 8 with the number of rows. */
