@@ -1,7 +1,7 @@
-//! The twin's own answers to the whole call, on two ends and on load cells, for inputs that are given line by line.
+//! The twin's own answers to the whole call, on two ends, load cells and books, for inputs given line by line.
 
 use crate::call::{counted, length, list, number, unhex};
-use crate::paper::calls::{between, cells, verdict};
+use crate::paper::calls::{between, cells, first_failing, verdict};
 use crate::records::from_words;
 use std::io::{BufRead, BufWriter, Write};
 
@@ -24,11 +24,13 @@ pub fn answer_lines(lines: impl BufRead, out: impl Write) -> Result<(), String> 
     out.flush().map_err(said)
 }
 
-/// The answer to "SHEET FILE", "between SHEET MILD HARSH" or "cells RECORDS W ROOM"; neither word begins a sheet.
+/// The answer to "SHEET FILE", "between SHEET MILD HARSH", "cells RECORDS W ROOM" or "first SHEET BOOK"; none of these
+/// words begins a sheet.
 fn answer(line: &str) -> Result<String, String> {
     match line.split_once(' ') {
         Some(("between", ends)) => on_ends(ends),
         Some(("cells", given)) => on_records(given),
+        Some(("first", given)) => on_book(given),
         _ => on_file(line),
     }
 }
@@ -75,6 +77,15 @@ fn on_records(given: &str) -> Result<String, String> {
         let numbers = out[..returned as usize].as_chunks().0.iter().map(|&number| u32::from_le_bytes(number));
         numbers.fold(returned.to_string(), |told, number| format!("{told} {number}"))
     }))
+}
+
+/// The place and the number of rows judged with a space between them, or the refusal and its place.
+fn on_book(given: &str) -> Result<String, String> {
+    let (sheet, book) = given.split_once(' ').ok_or("a sheet and a book are given, with one space between them")?;
+    let (sheet, book) = (bytes("sheet", sheet)?, bytes("book", book)?);
+    let mut told = [0; 2];
+    let returned = first_failing(&sheet, &book, &mut told);
+    Ok(refused(returned).unwrap_or_else(|| told.map(|number| number.to_string()).join(" ")))
 }
 
 fn refused(returned: u64) -> Option<String> {

@@ -52,10 +52,16 @@ pub enum Call {
         out: usize,
         fill: u64,
     },
+    /// A book under a sheet.
+    FirstFailing {
+        sheet: Vec<u8>,
+        book: Vec<u8>,
+        fill: u64,
+    },
 }
 
 /// What a call begins with.
-const KINDS: &str = "verdict, write, write-support, read, write-book, read-book, between or cells";
+const KINDS: &str = "verdict, write, write-support, read, write-book, read-book, between, cells or first-failing";
 
 /// No buffer longer than this is lent when words are read back.
 pub const LONGEST: usize = 1 << 20;
@@ -85,6 +91,9 @@ impl fmt::Display for Call {
             }
             Call::Cells { records, w, out, fill } => {
                 write!(to, "cells records={} w={w} out={out} fill={fill}", to_words(records))
+            }
+            Call::FirstFailing { sheet, book, fill } => {
+                write!(to, "first-failing sheet={} book={} fill={fill}", hex(sheet), hex(book))
             }
         }
     }
@@ -133,6 +142,10 @@ pub fn parse(words: &[&str]) -> Result<Call, String> {
         "cells" => {
             let [records, w, out, fill] = values(rest, ["records", "w", "out", "fill"])?;
             Ok(Call::Cells { records: from_words(records)?, w: number(w)?, out: length(out)?, fill: number(fill)? })
+        }
+        "first-failing" => {
+            let [sheet, book, fill] = values(rest, ["sheet", "book", "fill"])?;
+            Ok(Call::FirstFailing { sheet: unhex(sheet)?, book: unhex(book)?, fill: number(fill)? })
         }
         other => Err(format!("'{other}' is no call: {KINDS}")),
     }

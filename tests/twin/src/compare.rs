@@ -27,6 +27,13 @@ unsafe extern "C" {
         answer: *mut u32,
     ) -> u64;
     fn rembilung_cells(records: *const u8, records_len: usize, w: u32, out: *mut u8, out_len: usize) -> u64;
+    fn rembilung_first_failing(
+        sheet: *const u8,
+        sheet_len: usize,
+        book: *const u8,
+        book_len: usize,
+        answer: *mut u32,
+    ) -> u64;
 }
 
 /// Bytes on each side of what is lent; they must stay as they were.
@@ -78,7 +85,7 @@ pub fn library(call: &Call) -> Answer {
     answer(call, &LIBRARY)
 }
 
-/// The eight calls of one side.
+/// The nine calls of one side.
 pub struct Side {
     pub verdict: fn(&[u8], &[u8], &mut [u8]) -> u64,
     pub write_job: fn(&[u32; 25], &mut [u8]) -> u64,
@@ -88,6 +95,7 @@ pub struct Side {
     pub read_book: fn(&[u8], &mut [u32]) -> u64,
     pub between: fn(&[u8], &[u32; 25], &[u32; 25], &mut [u32; 14]) -> u64,
     pub cells: fn(&[u8], u32, &mut [u8]) -> u64,
+    pub first_failing: fn(&[u8], &[u8], &mut [u32; 2]) -> u64,
 }
 
 pub const TWIN: Side = Side {
@@ -99,6 +107,7 @@ pub const TWIN: Side = Side {
     read_book: calls::read_book,
     between: calls::between,
     cells: calls::cells,
+    first_failing: calls::first_failing,
 };
 
 // A slice's pointer is never null and its length is that of one lent buffer, as the header asks.
@@ -114,6 +123,9 @@ pub const LIBRARY: Side = Side {
     },
     cells: |records, w, lent| unsafe {
         rembilung_cells(records.as_ptr(), records.len(), w, lent.as_mut_ptr(), lent.len())
+    },
+    first_failing: |sheet, book, lent| unsafe {
+        rembilung_first_failing(sheet.as_ptr(), sheet.len(), book.as_ptr(), book.len(), lent.as_mut_ptr())
     },
 };
 
@@ -149,6 +161,7 @@ fn answer(call: &Call, side: &Side) -> Answer {
         Call::ReadBook { book, numbers, fill } => read(side.read_book, book, *numbers, *fill),
         Call::Between { sheet, mild, harsh, fill } => between(side, sheet, [mild, harsh], *fill),
         Call::Cells { records, w, out, fill } => cells(side, records, *w, *out, *fill),
+        Call::FirstFailing { sheet, book, fill } => first_failing(side, sheet, book, *fill),
     }
 }
 
@@ -195,6 +208,16 @@ fn cells(side: &Side, records: &[u8], w: u32, out: usize, fill: u64) -> Answer {
     let records = guarded(records, &mut random);
     let returned = (side.cells)(inside(&records), w, &mut written[GUARD..GUARD + out]);
     Answer { returned, written, read: black_box(records) }
+}
+
+/// The answer of the call on the first failing row of a book.
+fn first_failing(side: &Side, sheet: &[u8], book: &[u8], fill: u64) -> Answer {
+    let mut random = Random::new(fill, 0);
+    let mut numbers = some_numbers(2, &mut random);
+    let (sheet, book) = (guarded(sheet, &mut random), guarded(book, &mut random));
+    let lent = (&mut numbers[BESIDE..BESIDE + 2]).try_into().expect("two numbers are lent");
+    let returned = (side.first_failing)(inside(&sheet), inside(&book), lent);
+    Answer { returned, written: to_bytes(&numbers), read: black_box([sheet, book]).concat() }
 }
 
 /// Pseudo-random numbers: as many as are lent, and the guards.

@@ -33,6 +33,8 @@ pub enum Expect {
     Ends([u32; 2]),
     /// The number of a load cell's record, from 0.
     Greatest(usize, u32),
+    /// The place of the first failing row and the number of rows judged.
+    First([u32; 2]),
 }
 
 impl Expect {
@@ -51,6 +53,7 @@ impl Expect {
             Expect::Told(check, told) => answer.refusal() == 0 && answer.numbers()[check - 1] == told,
             Expect::Ends(heights) => answer.refusal() == 0 && answer.numbers()[12..] == heights,
             Expect::Greatest(record, number) => answer.refusal() == 0 && answer.numbers().get(record) == Some(&number),
+            Expect::First(told) => answer.refusal() == 0 && answer.numbers() == told,
         }
     }
 }

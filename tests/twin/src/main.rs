@@ -11,6 +11,7 @@ mod marked;
 mod marked_between;
 mod marked_books;
 mod marked_cells;
+mod marked_first_failing;
 mod marked_heights;
 mod marked_shields;
 mod marked_supports;
@@ -20,6 +21,7 @@ mod random;
 mod reading;
 mod records;
 mod round_trip;
+mod rows_judged;
 mod run;
 mod throughout;
 
@@ -74,6 +76,7 @@ fn differential(plan: &Plan, whole_table: bool) -> bool {
     let trials = &outcome.trials;
     println!("seed {}, {} jobs with all 6,001 heights scanned", plan.seed, trials.scans);
     println!("{} jobs between two ends held against what was told of the ends", trials.between);
+    println!("{} books whose first failing row was held against reports of the rows", trials.books);
     println!("{} cells required:", required.len());
     outcome.table.print(&required);
     let all_met = plan.calls < FULL || none_is_empty(&outcome.table.empty(&required));
@@ -106,10 +109,11 @@ fn one_call(call: &Call) -> bool {
     if library != twin {
         println!("{}", run::difference(call, &library, &twin));
     }
-    let lost = round_trip::tried(call, &library).and_then(Result::err);
-    lost.iter().for_each(|fault| println!("{fault}"));
-    println!("1 calls, {} differ", u8::from(library != twin || lost.is_some()));
-    library == twin && lost.is_none()
+    let broken: Vec<String> = run::alone(call, &library).filter_map(Result::err).collect();
+    broken.iter().for_each(|fault| println!("{fault}"));
+    let same = library == twin && broken.is_empty();
+    println!("1 calls, {} differ", u8::from(!same));
+    same
 }
 
 /// Demand 3, or what a pair of supports or two ends have to keep, once more on the calls of a turn.

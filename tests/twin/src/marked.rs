@@ -11,7 +11,8 @@ use crate::paper::file::groups;
 use crate::paper::fraction::d;
 use crate::paper::job::{Fields, Job};
 use crate::paper::sheet::Sheet;
-use crate::{marked_between, marked_books, marked_cells, marked_heights, marked_shields, marked_supports};
+use crate::{marked_between, marked_books, marked_cells, marked_first_failing};
+use crate::{marked_heights, marked_shields, marked_supports};
 use std::collections::BTreeMap;
 
 /// Job J.
@@ -26,7 +27,8 @@ const REPORT_OF_J: &str = "1 1 477521\n2 1 1584\n3 1 571785\n4 1 2777\n5 1 4160\
 pub fn failing() -> (Vec<String>, usize) {
     let scaffolds = [judged(), columns(), lines(), walls_and_sheets(), files(), long_sheet(), searches()].concat();
     let others = [marked_heights::cases(), marked_supports::cases(), marked_books::cases(), marked_between::cases()];
-    let cases = [scaffolds, others.concat(), marked_cells::cases(), marked_shields::cases()].concat();
+    let later = [marked_cells::cases(), marked_shields::cases(), marked_first_failing::cases()];
+    let cases = [scaffolds, others.concat(), later.concat()].concat();
     let failing = cases.iter().filter(|(_, holds)| !holds).map(|(name, _)| name.clone()).collect();
     (failing, cases.len())
 }
@@ -177,10 +179,12 @@ pub fn having<T>(found: &BTreeMap<[u32; 3], T>, something: u32) -> Vec<(u32, u32
 
 fn long_sheet() -> Cases {
     let returned = with_zeros((1 << 32) + 2, |sheet| {
-        [LIBRARY, TWIN]
-            .map(|side| [(side.verdict)(sheet, &[], &mut []), (side.between)(sheet, &J.0, &J.0, &mut [0; 14])])
+        [LIBRARY, TWIN].map(|side| {
+            let on_ends = (side.between)(sheet, &J.0, &J.0, &mut [0; 14]);
+            [(side.verdict)(sheet, &[], &mut []), on_ends, (side.first_failing)(sheet, &[], &mut [0; 2])]
+        })
     });
-    let wanted = [[(1 << 32) + 4_294_967_295; 2]; 2];
+    let wanted = [[(1 << 32) + 4_294_967_295; 3]; 2];
     returned
         .map(|returned| case("a place above 4,294,967,295 is given as that", returned == wanted))
         .into_iter()

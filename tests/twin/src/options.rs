@@ -12,10 +12,12 @@ pub const USAGE: &str = "usage: twin [CALLS] [--seed N] [--threads N] [--stop N]
 A CALL is the words that a differing call printed: verdict sheet=HEX file=HEX report=LENGTH fill=N,
 write numbers=N,N,.. file=LENGTH fill=N, write-support numbers=N,N,.. file=LENGTH fill=N, read file=HEX fill=N,
 write-book numbers=N,N,.. book=LENGTH fill=N, read-book book=HEX numbers=COUNT fill=N,
-between sheet=HEX mild=N,N,.. harsh=N,N,.. fill=N, or cells records=HEX,HEXxTIMES,.. w=N out=LENGTH fill=N.
+between sheet=HEX mild=N,N,.. harsh=N,N,.. fill=N, cells records=HEX,HEXxTIMES,.. w=N out=LENGTH fill=N, or
+first-failing sheet=HEX book=HEX fill=N.
 --answers reads lines \"SHEET FILE\", each the bytes in hexadecimal or '-' for none, lines
-\"between SHEET MILD HARSH\", each job 25 numbers with commas between them, and lines \"cells RECORDS W ROOM\", the
-records in hexadecimal, HEXxTIMES where they repeat, or '-' for none, and gives the twin's answers.";
+\"between SHEET MILD HARSH\", each job 25 numbers with commas between them, lines \"cells RECORDS W ROOM\", the
+records in hexadecimal, HEXxTIMES where they repeat, or '-' for none, and lines \"first SHEET BOOK\", the bytes as of
+a file, and gives the twin's answers.";
 
 /// What is asked for.
 pub enum Task {

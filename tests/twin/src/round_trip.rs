@@ -14,27 +14,37 @@ pub fn tried(call: &Call, answer: &Answer) -> Option<Result<Cell, String>> {
             let (rows, _) = numbers.as_chunks::<25>();
             let book = answer.bytes().to_vec();
             let back = library(&Call::ReadBook { book, numbers: rows.len() * 25, fill: *fill });
-            Some(same(false, rows.len(), &back, rows.len(), &to_bytes(rows.as_flattened())))
+            let given = to_bytes(rows.as_flattened());
+            Some(same(round_trip_cell(false, rows.len()), &back, rows.len(), &given))
         }
         Call::ReadBook { book, fill, .. } => {
             let rows = answer.returned as usize;
             let numbers = answer.numbers().get(..rows * 25)?.to_vec();
-            let back = library(&Call::WriteBook { numbers, book: book.len(), fill: *fill });
-            Some(same(true, rows, &back, book.len(), book))
+            // No bytes at all are the only book that does not write back: no rows are written as the count 0.
+            let (cell, given) = match book.as_slice() {
+                [] => (empty_season_cell(), &[0][..]),
+                book => (round_trip_cell(true, rows), book),
+            };
+            let back = library(&Call::WriteBook { numbers, book: given.len(), fill: *fill });
+            Some(same(cell, &back, given.len(), given))
         }
         _ => None,
     }
 }
 
-fn same(reads: bool, rows: usize, back: &Answer, returned: usize, given: &[u8]) -> Result<Cell, String> {
+fn same(cell: Cell, back: &Answer, returned: usize, given: &[u8]) -> Result<Cell, String> {
     if back.returned == returned as u64 && back.lent() == given {
-        return Ok(round_trip_cell(reads, rows));
+        return Ok(cell);
     }
-    let calls = if reads { ["read", "writes"] } else { ["written", "reads"] };
     let came = format!("refusal {} and place or length {}", back.refusal(), back.place());
-    Err(format!("round trip: what was {} the library {} back otherwise, with {came}", calls[0], calls[1]))
+    Err(format!("round trip: what the library answered it does not take back, with {came}"))
 }
 
 pub fn round_trip_cell(reads: bool, rows: usize) -> Cell {
     cell("round trip of a book", [u32::from(reads), rows as u32, 0, 0])
+}
+
+/// No bytes read, and one byte written.
+pub fn empty_season_cell() -> Cell {
+    cell("round trip of no bytes", [0; 4])
 }

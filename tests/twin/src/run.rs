@@ -2,16 +2,16 @@
 
 use crate::call::Call;
 use crate::compare::{Answer, both};
-use crate::coverage::Table;
+use crate::coverage::{Cell, Table};
 use crate::demand3::{heights_fault, job, pair_fault};
-use crate::inputs::cells_damage;
 use crate::inputs::heights::{pair_cell, report_cell};
 use crate::inputs::required::refusal_cell;
 use crate::inputs::{Lists, Planned, Relation, Turn, block, block_length};
+use crate::inputs::{cells_damage, first_damage};
 use crate::paper::file::{self, Content};
 use crate::paper::{heights, sheet};
 use crate::reading::{self, Report};
-use crate::{round_trip, throughout};
+use crate::{round_trip, rows_judged, throughout};
 use std::sync::Mutex;
 use std::sync::atomic::{AtomicU64, Ordering};
 
@@ -37,12 +37,15 @@ pub struct Trials {
     pub scans: u64,
     /// Jobs between two ends whose reports were held against what was told of the ends.
     pub between: u64,
+    /// Books whose first failing row was held against the reports of the rows.
+    pub books: u64,
 }
 
 impl Trials {
     fn add(&mut self, other: &Trials) {
         self.scans += other.scans;
         self.between += other.between;
+        self.books += other.books;
     }
 }
 
@@ -109,11 +112,13 @@ fn take(turn: &Turn, first: u64, found: &Found, table: &mut Table, trials: &mut 
         if library != twin {
             found.add(number, difference(&planned.call, &library, &twin));
         }
-        match round_trip::tried(&planned.call, &library) {
-            Some(Ok(cell)) => table.count(cell),
-            Some(Err(fault)) => found.add(number, format!("{fault}\n  again: --case {}", planned.call)),
-            None => {}
+        for tried in alone(&planned.call, &library) {
+            match tried {
+                Ok(cell) => table.count(cell),
+                Err(fault) => found.add(number, format!("{fault}\n  again: --case {}", planned.call)),
+            }
         }
+        trials.books += u64::from(matches!(planned.call, Call::FirstFailing { .. }) && library.refusal() == 0);
         told = told.or(throughout::told(&planned.call, &library));
         let report = count(planned, &library, table);
         reports.extend(report.map(|report| (&planned.call, report)));
@@ -129,6 +134,11 @@ fn take(turn: &Turn, first: u64, found: &Found, table: &mut Table, trials: &mut 
         let words: Vec<String> = turn.calls.iter().map(|planned| planned.call.to_string()).collect();
         found.add(first, format!("{fault}\n  again: {option} {}", words.join(" ")));
     }
+}
+
+/// What is tried of the library's answer to one call by other calls of the library: its cell, or what is broken.
+pub fn alone(call: &Call, library: &Answer) -> impl Iterator<Item = Result<Cell, String>> {
+    [round_trip::tried(call, library), rows_judged::tried(call, library)].into_iter().flatten()
 }
 
 /// What has to hold among the reports of a turn and does not, with the option by which it is tried again.
@@ -195,7 +205,7 @@ fn count(planned: &Planned, library: &Answer, table: &mut Table) -> Option<Repor
 }
 
 /// Refusals are counted by these kinds: verdict, write and read of jobs 0 to 2, of supports 3 to 5; books 6 and 7;
-/// two ends 8; load cells 11.
+/// two ends 8; load cells 11; first failing rows 12.
 fn kind(call: &Call) -> u32 {
     let is_support = |file: &[u8]| file.first() == Some(&3);
     match call {
@@ -207,6 +217,7 @@ fn kind(call: &Call) -> u32 {
         Call::ReadBook { .. } => 7,
         Call::Between { .. } => 8,
         Call::Cells { .. } => cells_damage::KIND,
+        Call::FirstFailing { .. } => first_damage::KIND,
     }
 }
 
@@ -233,7 +244,7 @@ pub fn told(call: &Call, answer: &Answer) -> String {
     };
     let lent = match call {
         Call::Verdict { .. } => String::from_utf8_lossy(answer.lent()).escape_debug().to_string(),
-        Call::Between { .. } => format!("{:?}", answer.numbers()),
+        Call::Between { .. } | Call::FirstFailing { .. } => format!("{:?}", answer.numbers()),
         _ => answer.lent().iter().map(|byte| format!("{byte:02x}")).collect(),
     };
     format!("{returned}, buffer {lent}")

@@ -1,4 +1,4 @@
-//! Marked cases of a season's book, worked out by hand from document 01, request 3/14 and what was decided about it.
+//! Marked cases of a season's book, worked out by hand from document 01, requests 3/14 and 9/14 and what was decided.
 //!
 //! Who wrote them saw the papers and the header, and no crate, no vector and no answer of a program. Beside each number
 //! stands how it comes about. Offsets and rows count from 0, fields (columns) from 1.
@@ -7,7 +7,7 @@ mod bad_rows;
 mod counts;
 mod damage;
 mod order;
-mod rows;
+pub mod rows;
 mod shields;
 mod trying;
 mod whole;

@@ -15,9 +15,9 @@ fn empty_book(cases: &mut Cases) {
     cases.read_refused("no rows and a byte more", &[0x00, 0x00], 50, 9, 1);
     cases.read_refused("no rows and a line's end", &[0x00, 0x0A], 0, 9, 1);
     cases.read_refused("no rows and J's columns", &[&[0x00], &BOOK_J[1..]].concat(), 50, 9, 1);
-    // Before request 9/14 no bytes at all are a count that isn't there: damaged at 0.
-    for lent in [0, 24, 25, 50] {
-        cases.read_refused("no bytes at all", &[], lent, 9, 0);
+    // Before request 9/14 no bytes at all were a count that isn't there, damaged at 0; they are an empty season: no rows.
+    for lent in [0, 1, 24, 25, 50, 5_000] {
+        cases.reads("no bytes at all", &[], lent, 0, &[]);
     }
 }
 
@@ -35,8 +35,8 @@ fn job_j(cases: &mut Cases) {
         cases.read_refused("J into too few numbers", &BOOK_J, lent, 8, 1);
     }
     // Cut off after `length` bytes: the number that the cut falls into or before is the last one that begins at or
-    // before `length`. At 0 it is the count; at 38 it is the 25th, of which only D0 at 37 is left.
-    for length in 0..39 {
+    // before `length`. At 38 it is the 25th, of which only D0 at 37 is left. At 0 there is no book's byte left.
+    for length in 1..39 {
         let place = BOOK_J_AT.iter().rev().find(|&&at| at <= length).map_or(0, |&at| at);
         cases.read_refused(&format!("J cut to {length} bytes"), &BOOK_J[..length], 50, 9, place as u64);
     }

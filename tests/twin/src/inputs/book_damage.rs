@@ -45,9 +45,17 @@ pub fn count_cell(count: u32, follows: u64) -> Cell {
     cell("count of a book", [count, follows as u32, 0, 0])
 }
 
+/// As many turns as there are ways to damage a count, and rooms.
+pub const DAMAGED_COUNTS: u64 = 8;
+
+/// The way, which leaves a byte at least, for no bytes at all are an empty season; and whether there is no room.
+pub fn damaged_count_key(turn: u64) -> (usize, u64) {
+    (1 + turn as usize % 4, turn / 4 % 2)
+}
+
 /// A count damaged in each way, with room enough and with none; rows stand behind it where the way leaves them there.
 pub fn damaged_count(random: &mut Random, _: &Lists, turn: u64) -> Turn {
-    let (way, short) = (turn as usize % 5, turn / 5 % 2);
+    let key @ (way, short) = damaged_count_key(turn);
     let rows = some_rows(random);
     let mut numbers = in_columns(&accepted(random, rows));
     if random.once_in(4) {
@@ -56,10 +64,10 @@ pub fn damaged_count(random: &mut Random, _: &Lists, turn: u64) -> Turn {
     let book = broken(random, &numbers, 0, way).0;
     let call =
         if short == 1 { Call::ReadBook { book, numbers: 0, fill: random.next() } } else { read(random, book, rows) };
-    single(call, vec![(damaged_count_cell(way, short), Expect::Refusal(9, 0))])
+    single(call, vec![(damaged_count_cell(key), Expect::Refusal(9, 0))])
 }
 
-pub fn damaged_count_cell(way: usize, short: u64) -> Cell {
+pub fn damaged_count_cell((way, short): (usize, u64)) -> Cell {
     cell("damaged count", [way as u32, short as u32, 0, 0])
 }
 
@@ -115,10 +123,10 @@ pub fn cut(random: &mut Random, _: &Lists, turn: u64) -> Turn {
     let numbers = in_columns(&longest(random, 2));
     let mut book = files::of(&numbers);
     book.truncate(cut);
-    // The number cut off is the last that begins at the cut or before it.
+    // The number cut off is the last that begins at the cut or before it; without a byte there is none.
     let offset = (0..numbers.len()).map(|before| files::of(&numbers[..before]).len()).filter(|&at| at <= cut).max();
-    let cells = vec![(cut_cell(cut), Expect::Refusal(9, offset.unwrap_or(0) as u64))];
-    single(read(random, book, 2), cells)
+    let expect = if cut == 0 { Expect::Length(0) } else { Expect::Refusal(9, offset.unwrap_or(0) as u64) };
+    single(read(random, book, 2), vec![(cut_cell(cut), expect)])
 }
 
 pub fn cut_cell(number: usize) -> Cell {
@@ -189,11 +197,11 @@ pub fn same_damage_cell(way: usize, column: usize) -> Cell {
 }
 
 // The faults of reading a book, one bit each.
-const DAMAGED_COUNT: u64 = 1;
-const TOO_MANY: u64 = 2;
-const DAMAGED: u64 = 4;
-const TRAILED: u64 = 8;
-const BAD_ROW: u64 = 16;
+pub const DAMAGED_COUNT: u64 = 1;
+pub const TOO_MANY: u64 = 2;
+pub const DAMAGED: u64 = 4;
+pub const TRAILED: u64 = 8;
+pub const BAD_ROW: u64 = 16;
 const SHORT: u64 = 32;
 
 /// Every set of them, none among them.
@@ -233,7 +241,7 @@ pub fn faults(random: &mut Random, _: &Lists, turn: u64) -> Turn {
 }
 
 /// A book with the faults that its bytes can have, and where what follows the count is damaged.
-fn damaged_book(random: &mut Random, numbers: &[u32], set: u64) -> (Vec<u8>, usize) {
+pub fn damaged_book(random: &mut Random, numbers: &[u32], set: u64) -> (Vec<u8>, usize) {
     let whole = files::of(numbers);
     let end = whole.len();
     // A number that is cut off would leave no place for bytes after the last.

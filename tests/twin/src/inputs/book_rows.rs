@@ -12,7 +12,8 @@ use crate::random::Random;
 /// What makes a row bad: 25 fields out of range, 4 and 5 at either place, a first number of 3, a support's numbers.
 pub const FAULTS: usize = 31;
 
-fn bad_row(random: &mut Random, fault: usize) -> Job {
+/// A row that has the fault.
+pub fn bad_row(random: &mut Random, fault: usize) -> Job {
     let job = any_accepted(random);
     match fault {
         0..=24 => outside(random, job, fault + 1),

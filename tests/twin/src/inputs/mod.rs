@@ -21,6 +21,10 @@ pub mod ends;
 pub mod exact;
 pub mod faults;
 pub mod files;
+pub mod first_damage;
+pub mod first_failing;
+pub mod first_required;
+pub mod first_rows;
 pub mod heights;
 pub mod jobs;
 pub mod kinds;
@@ -108,7 +112,7 @@ struct Kind {
     calls: usize,
 }
 
-const KINDS: [Kind; 110] = [
+const KINDS: [Kind; 134] = [
     Kind { make: kinds::uniform, turns: 140, calls: 1 },
     Kind { make: damage::wild, turns: 24, calls: 1 },
     Kind { make: damage::end, turns: 90, calls: 1 },
@@ -219,6 +223,30 @@ const KINDS: [Kind; 110] = [
     Kind { make: shield_limits::pair, turns: 1, calls: 2 },
     Kind { make: shield_limits::heights, turns: 1, calls: 3 },
     Kind { make: shield_limits::between, turns: 1, calls: 7 },
+    Kind { make: first_rows::uniform, turns: 3, calls: 1 },
+    Kind { make: first_rows::mixed, turns: 2, calls: 1 },
+    Kind { make: first_rows::sized, turns: 1, calls: 1 },
+    Kind { make: first_rows::far_down, turns: 1, calls: 1 },
+    Kind { make: first_rows::alone, turns: 3, calls: 1 },
+    Kind { make: first_rows::families, turns: 1, calls: 1 },
+    Kind { make: first_rows::calm, turns: 1, calls: 1 },
+    Kind { make: first_rows::shape, turns: 1, calls: 1 },
+    Kind { make: first_damage::one_bad, turns: 2, calls: 1 },
+    Kind { make: first_damage::two_bad, turns: 1, calls: 1 },
+    Kind { make: first_damage::bad_far_down, turns: 1, calls: 1 },
+    Kind { make: first_damage::end, turns: 7, calls: 1 },
+    Kind { make: first_damage::wild, turns: 1, calls: 1 },
+    Kind { make: first_damage::faults, turns: 3, calls: 1 },
+    Kind { make: first_damage::sheet_length, turns: 1, calls: 1 },
+    Kind { make: first_damage::damaged_sheet, turns: 6, calls: 1 },
+    Kind { make: first_damage::no_rows, turns: 1, calls: 1 },
+    Kind { make: first_damage::count, turns: 1, calls: 1 },
+    Kind { make: first_damage::damaged_count, turns: 1, calls: 1 },
+    Kind { make: first_damage::broken_number, turns: 7, calls: 1 },
+    Kind { make: first_damage::cut, turns: 2, calls: 1 },
+    Kind { make: first_damage::two_places, turns: 1, calls: 1 },
+    Kind { make: first_damage::same_damage, turns: 2, calls: 1 },
+    Kind { make: first_damage::shaken, turns: 1, calls: 1 },
 ];
 
 /// The number of calls in a block.

@@ -19,7 +19,7 @@ use super::support_kinds::{accepted_cell, still_cell};
 use super::support_limits::{self, STILL, aim};
 use super::supports::{ANY_FIELD, FAMILY, LOADS_AND_GROUND};
 use super::tuned::{AIMS, Aim};
-use super::{Lists, cells_required, faults, shield_required, support_damage, support_kinds};
+use super::{Lists, cells_required, faults, first_required, shield_required, support_damage, support_kinds};
 use crate::coverage::{Cell, cell};
 use crate::round_trip::round_trip_cell;
 use crate::throughout::throughout_cell;
@@ -56,6 +56,7 @@ pub fn cells(lists: &Lists) -> Vec<Cell> {
     cells.extend(refused_ends(lists));
     cells.extend(cells_required::cells());
     cells.extend(shield_required::cells());
+    cells.extend(first_required::cells(lists));
     cells
 }
 
@@ -222,7 +223,7 @@ fn books() -> Vec<Cell> {
 
 fn damaged_books() -> Vec<Cell> {
     let mut cells: Vec<Cell> = (0..3).flat_map(|follows| COUNTS.map(|count| count_cell(count, follows))).collect();
-    cells.extend((0..10).map(|number| damaged_count_cell(number % 5, number as u64 / 5)));
+    cells.extend((0..DAMAGED_COUNTS).map(damaged_count_key).map(damaged_count_cell));
     cells.extend(COUNTS[6..].iter().map(|&count| high_count_damaged_cell(count)));
     cells.extend((0..SAME_DAMAGES as usize).map(|number| same_damage_cell(number % 3, number / 3)));
     cells.extend((0..DAMAGES).map(damage).map(|(rows, number, way)| damage_cell(rows, number, way)));

@@ -16,10 +16,19 @@ pub fn to_bytes(entries: &Entries) -> Vec<u8> {
     entries.iter().flat_map(|entry| entry.to_le_bytes()).collect()
 }
 
-/// A valid sheet of one of nine shapes.
+/// As many shapes as a valid sheet has here.
+pub const SHAPES: u32 = 9;
+
+/// A valid sheet of any shape.
 pub fn valid(random: &mut Random) -> Entries {
+    let shape = random.below(SHAPES as usize) as u32;
+    of_shape(random, shape)
+}
+
+/// A valid sheet of a shape.
+pub fn of_shape(random: &mut Random, shape: u32) -> Entries {
     let low = random.within(LEAST, 1000);
-    match random.below(9) {
+    match shape {
         0 => sheet_t(),
         1 => [1000; 251],
         2 => [low as u16; 251],

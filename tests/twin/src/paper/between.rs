@@ -4,16 +4,13 @@ use super::checks::check;
 use super::heights::stability;
 use super::job::{self, Job};
 use super::order;
-use super::refusal::{Refusal, refuse};
+use super::refusal::{NONE, Refusal, refuse};
 use super::sheet::{self, Sheet};
 
 /// What is said of a check.
 pub const PASSES_THROUGHOUT: u32 = 1;
 pub const FAILS_THROUGHOUT: u32 = 2;
 pub const UNDECIDED: u32 = 3;
-
-/// "None" in an answer of numbers.
-pub const NONE: u32 = 4_294_967_295;
 
 /// The sheet is examined first, then the jobs.
 pub fn answer(sheet: &[u8], mild: &Job, harsh: &Job) -> Result<[u32; 14], Refusal> {

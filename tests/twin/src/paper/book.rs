@@ -1,4 +1,4 @@
-//! A season's book, stored by column, as request 3/14 has it: rows of scaffold jobs into a book, a book into rows.
+//! A season's book, stored by column, as requests 3/14 and 9/14 have it: rows of scaffold jobs into a book and back.
 
 use super::file::{read_numbers, write_numbers};
 use super::job::{self, Fields};
@@ -14,12 +14,23 @@ pub fn write(rows: &[Row], book: &mut [u8]) -> Result<usize, Refusal> {
     write_numbers(&by_column(rows), book)
 }
 
-/// A book into rows: 9 of the count, 10 whatever follows, 9 of the numbers and of what trails, 11, 8 in rows.
-pub fn read(book: &[u8], lent: &mut [Row]) -> Result<usize, Refusal> {
+/// A book's rows: 9 of the count, 10 whatever follows, 9 of the numbers and of what trails, 11.
+pub fn rows(book: &[u8]) -> Result<Vec<Row>, Refusal> {
+    // No bytes at all mean an empty season.
+    if book.is_empty() {
+        return Ok(Vec::new());
+    }
     let (count, at) = read_count(book)?;
     try_count(count)?;
     let rows = by_row(&read_columns(book, at, count)?, count);
     try_rows(&rows)?;
+    Ok(rows)
+}
+
+/// A book into lent rows: what its rows are refused for, then 8 in rows.
+pub fn read(book: &[u8], lent: &mut [Row]) -> Result<usize, Refusal> {
+    let rows = rows(book)?;
+    let count = rows.len();
     if lent.len() < count {
         return refuse(8, count as u64);
     }

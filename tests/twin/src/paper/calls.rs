@@ -1,9 +1,10 @@
-//! The eight calls as the C host sees them: one 64-bit number back, lent buffers written only on success.
+//! The nine calls as the C host sees them: one 64-bit number back, lent buffers written only on success.
 
 use super::between;
 use super::book;
 use super::cells;
 use super::file::{self, Content};
+use super::first_failing;
 use super::job::{self, Fields};
 use super::refusal::{Refusal, one_number, refuse};
 use super::report::report;
@@ -75,4 +76,12 @@ pub fn between(sheet: &[u8], mild: &[u32; 25], harsh: &[u32; 25], lent: &mut [u3
 /// Load cells' records into the greatest push among the last w of them: 13, 15, 14, 8.
 pub fn cells(records: &[u8], w: u32, lent: &mut [u8]) -> u64 {
     one_number(cells::write(records, w, lent))
+}
+
+/// The first row of a book that has a failed check, and the rows judged: 1, 2, then 9 of the count, 10, 9, 11.
+pub fn first_failing(sheet: &[u8], book: &[u8], lent: &mut [u32; 2]) -> u64 {
+    one_number(first_failing::answer(sheet, book).map(|answer| {
+        *lent = answer;
+        2
+    }))
 }

@@ -1,4 +1,4 @@
-//! Document 01 with requests 1/14 to 8/14, in its own order and in exact fractions: what the library is compared with.
+//! Document 01 with requests 1/14 to 9/14, in its own order and in exact fractions: what the library is compared with.
 
 pub mod between;
 pub mod book;
@@ -8,6 +8,7 @@ pub mod checks;
 pub mod constants;
 pub mod figures;
 pub mod file;
+pub mod first_failing;
 pub mod fraction;
 pub mod heights;
 pub mod job;

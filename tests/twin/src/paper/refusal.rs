@@ -1,4 +1,7 @@
-//! A refusal with its place, and the one 64-bit number that a call returns.
+//! A refusal with its place, the one 64-bit number that a call returns, and what stands for none in an answer.
+
+/// "None" in an answer of numbers.
+pub const NONE: u32 = 4_294_967_295;
 
 /// The number and the place of "Numbers for what can't be judged".
 #[derive(Clone, Copy, PartialEq, Eq, Debug)]

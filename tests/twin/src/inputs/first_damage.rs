@@ -1,0 +1,329 @@
+//! The turns on books that are judged and refused, or nearly so: sheets, no bytes at all, damage, bad rows, and several
+//! faults, with rows before them that fail.
+
+use super::book_damage::{self, BAD_ROW, DAMAGED, DAMAGED_COUNT, TOO_MANY, TRAILED, damaged_book};
+use super::book_rows::{FAULTS, PAIRS, bad_row};
+use super::books::{accepted, in_columns, whole};
+use super::first_failing::{call, failing, passing_rows, told};
+use super::jobs::{any_accepted, wild as wild_job};
+use super::kinds::single;
+use super::sheets::{Entries, damaged, to_bytes, valid};
+use super::{Lists, Planned, Relation, Turn, ends, faults as faulty, files};
+use crate::call::Call;
+use crate::coverage::{Cell, Expect, cell};
+use crate::paper::job::{Job, accept};
+use crate::paper::sheet::Sheet;
+use crate::random::Random;
+use std::cmp::Reverse;
+
+/// The kind of calls, by which cells count the call on the first failing row.
+pub const KIND: u32 = 12;
+
+/// A turn on books that are read, made to the call that judges them.
+fn judged(random: &mut Random, turn: Turn) -> Turn {
+    let calls = turn.calls.into_iter().map(|planned| of_judged(random, planned)).collect();
+    Turn { calls, relation: Relation::Nothing }
+}
+
+/// What is refused in reading is refused alike, and what is read is judged.
+fn of_judged(random: &mut Random, planned: Planned) -> Planned {
+    let Call::ReadBook { book, .. } = planned.call else {
+        panic!("a book is read in this turn");
+    };
+    let of = |expect| if matches!(expect, Expect::Length(_)) { Expect::Length(2) } else { expect };
+    let cells = planned.cells.into_iter().map(|(cell, expect)| (judged_cell(cell), of(expect))).collect();
+    let sheet = to_bytes(&valid(random));
+    Planned { call: call(random, sheet, book), cells }
+}
+
+/// The cell of a book that is read, where it is judged.
+pub fn judged_cell(read: Cell) -> Cell {
+    let [first, second, third, _] = read.key;
+    Cell { key: [first, second, third, 1], ..read }
+}
+
+pub fn count(random: &mut Random, lists: &Lists, number: u64) -> Turn {
+    let read = book_damage::count(random, lists, number);
+    judged(random, read)
+}
+
+/// A count damaged in each way, and one above 200 in a longer form.
+pub fn damaged_count(random: &mut Random, lists: &Lists, number: u64) -> Turn {
+    let read = match number % 2 {
+        0 => book_damage::damaged_count(random, lists, number / 2),
+        _ => book_damage::high_count_damaged(random, lists, number / 2),
+    };
+    judged(random, read)
+}
+
+pub fn broken_number(random: &mut Random, lists: &Lists, number: u64) -> Turn {
+    let read = book_damage::broken_number(random, lists, number);
+    judged(random, read)
+}
+
+pub fn cut(random: &mut Random, lists: &Lists, number: u64) -> Turn {
+    let read = book_damage::cut(random, lists, number);
+    judged(random, read)
+}
+
+pub fn two_places(random: &mut Random, lists: &Lists, number: u64) -> Turn {
+    let read = book_damage::two_places(random, lists, number);
+    judged(random, read)
+}
+
+pub fn same_damage(random: &mut Random, lists: &Lists, number: u64) -> Turn {
+    let read = book_damage::same_damage(random, lists, number);
+    judged(random, read)
+}
+
+pub fn shaken(random: &mut Random, lists: &Lists, number: u64) -> Turn {
+    let read = book_damage::shaken(random, lists, number);
+    judged(random, read)
+}
+
+/// The turn of one call on rows under a valid sheet.
+fn on_rows(random: &mut Random, rows: &[Job], cells: Vec<(Cell, Expect)>) -> Turn {
+    let sheet = to_bytes(&valid(random));
+    single(call(random, sheet, whole(rows)), cells)
+}
+
+/// What is answered under a valid sheet: the lowest bad row, or two numbers.
+fn expected(rows: &[Job]) -> Expect {
+    match rows.iter().position(|row| accept(row).is_err()) {
+        Some(row) => Expect::Refusal(11, row as u64),
+        None => Expect::Length(2),
+    }
+}
+
+/// As many turns as there are faults of a row and orders.
+pub const BAD_ROWS: u64 = 2 * FAULTS as u64;
+
+/// The fault, those that are no field's range first, and whether the row that fails stands behind the bad one.
+pub fn bad_row_key(number: u64) -> [u32; 2] {
+    let (fault, round) = (number % FAULTS as u64, number / FAULTS as u64);
+    [((fault + 25) % FAULTS as u64) as u32, ((fault + round) % 2) as u32]
+}
+
+/// A bad row behind one that fails, or before it: the book is refused either way.
+pub fn one_bad(random: &mut Random, _: &Lists, number: u64) -> Turn {
+    let key @ [fault, behind] = bad_row_key(number);
+    let sheet = Sheet(valid(random));
+    let (first, second) = random.pick(&PAIRS);
+    let (bad, fails) = if behind == 1 { (first, second) } else { (second, first) };
+    let mut rows = passing_rows(random, &sheet, 4);
+    rows[fails] = failing(random, &sheet);
+    rows[bad] = bad_row(random, fault as usize);
+    let cells = vec![(bad_row_cell(key), Expect::Refusal(11, bad as u64))];
+    single(call(random, to_bytes(&sheet.0), whole(&rows)), cells)
+}
+
+pub fn bad_row_cell([fault, behind]: [u32; 2]) -> Cell {
+    cell("bad row and failing row", [fault, behind, 0, 0])
+}
+
+/// Two bad rows among four; what is wrong with the later one stands in earlier columns, or is tried first.
+pub fn two_bad(random: &mut Random, _: &Lists, number: u64) -> Turn {
+    let pair @ (row, later) = PAIRS[number as usize % PAIRS.len()];
+    let (fault, met_first) = (random.within(20, 28) as usize, random.pick(&[0, 1, 2, 3, 4, 5, 6, 7, 8, 29]));
+    let mut rows = accepted(random, 4);
+    rows[row] = bad_row(random, fault);
+    rows[later] = bad_row(random, met_first);
+    on_rows(random, &rows, vec![(two_bad_cell(pair), Expect::Refusal(11, row as u64))])
+}
+
+pub fn two_bad_cell((row, later): (usize, usize)) -> Cell {
+    cell("two bad rows of a judged book", [row as u32, later as u32, 0, 0])
+}
+
+/// The last row of so many is bad, and row 0 fails.
+pub const FAR: [usize; 4] = [2, 128, 129, 200];
+
+pub fn bad_far_down(random: &mut Random, _: &Lists, number: u64) -> Turn {
+    let (size, fault) = (FAR[number as usize % FAR.len()], random.below(FAULTS));
+    let sheet = Sheet(valid(random));
+    let mut rows = passing_rows(random, &sheet, size);
+    (rows[0], rows[size - 1]) = (failing(random, &sheet), bad_row(random, fault));
+    let cells = vec![(bad_far_cell(size), Expect::Refusal(11, size as u64 - 1))];
+    single(call(random, to_bytes(&sheet.0), whole(&rows)), cells)
+}
+
+pub fn bad_far_cell(size: usize) -> Cell {
+    cell("bad row behind a failing one", [size as u32, 0, 0, 0])
+}
+
+/// Every end of a range, and the contradictions and walls beside them, in a row of a small book.
+pub fn end(random: &mut Random, lists: &Lists, number: u64) -> Turn {
+    let (job, key) = ends::numbered(random, &lists.ends, number, KIND);
+    let size = random.within(1, 3) as usize;
+    let mut rows = accepted(random, size);
+    rows[random.below(size)] = job;
+    let expect = expected(&rows);
+    on_rows(random, &rows, vec![(key, expect)])
+}
+
+/// A row with numbers of any size.
+pub fn wild(random: &mut Random, _: &Lists, _: u64) -> Turn {
+    let size = random.within(1, 5) as usize;
+    let mut rows = accepted(random, size);
+    let row = random.below(size);
+    rows[row] = wild_job(random, rows[row]);
+    on_rows(random, &rows, Vec::new())
+}
+
+/// Every set of faults of a book's bytes and rows, and of the sheet's.
+pub const SETS: u64 = 128;
+
+// The sheet's faults, one bit each; those of a book go before them.
+const WRONG_LENGTH: u64 = 32;
+const BAD_ENTRY: u64 = 64;
+
+/// Sets of faults, those of few first; the first fault in order has to be the one refused. Row 0 fails at times.
+pub fn faults(random: &mut Random, _: &Lists, number: u64) -> Turn {
+    let mut sets: Vec<u64> = (0..SETS).collect();
+    sets.sort_by_key(|&set| (set.count_ones(), Reverse(set)));
+    let set = sets[(number % SETS) as usize];
+    let has = |fault: u64| set & fault != 0;
+    let (size, fault) = (random.within(2, 5) as usize, random.below(FAULTS));
+    let mut rows = accepted(random, size);
+    let bad = random.below(size);
+    if has(BAD_ROW) {
+        rows[bad] = bad_row(random, fault);
+    }
+    let mut numbers = in_columns(&rows);
+    if has(TOO_MANY) {
+        numbers[0] = random.pick(&book_damage::COUNTS[6..]);
+    }
+    let (book, damaged) = damaged_book(random, &numbers, set);
+    let sheet = faulty::sheet(random, has(WRONG_LENGTH), has(BAD_ENTRY));
+    let expect = match set {
+        _ if has(WRONG_LENGTH) => Expect::Refusal(1, sheet.len() as u64),
+        _ if has(BAD_ENTRY) => Expect::Number(2),
+        _ if has(DAMAGED_COUNT) => Expect::Refusal(9, 0),
+        _ if has(TOO_MANY) => Expect::Refusal(10, u64::from(numbers[0])),
+        _ if has(DAMAGED | TRAILED) => Expect::Refusal(9, damaged as u64),
+        _ if has(BAD_ROW) => Expect::Refusal(11, bad as u64),
+        _ => Expect::Length(2),
+    };
+    single(call(random, sheet, book), vec![(faults_cell(set), expect)])
+}
+
+pub fn faults_cell(set: u64) -> Cell {
+    cell("faults of a judged book", [set as u32, 0, 0, 0])
+}
+
+/// The books that stand behind a bad sheet: row 0 fails, none does, no bytes, no rows, a damaged count, one above 200, a
+/// damaged number, bytes too many, a bad row.
+pub const BOOKS: u64 = 9;
+
+fn some_book(random: &mut Random, which: u64) -> Vec<u8> {
+    let size = random.within(1, 3) as usize;
+    let mut rows = accepted(random, size);
+    match which {
+        1 => {
+            let sheet = Sheet(valid(random));
+            return whole(&passing_rows(random, &sheet, size));
+        }
+        2 => return Vec::new(),
+        3 => return vec![0],
+        8 => {
+            let fault = random.below(FAULTS);
+            rows[size - 1] = bad_row(random, fault);
+        }
+        _ => {}
+    }
+    let mut numbers = in_columns(&rows);
+    if which == 5 {
+        numbers[0] = random.pick(&book_damage::COUNTS[6..]);
+    }
+    let set = match which {
+        4 => DAMAGED_COUNT,
+        6 => DAMAGED,
+        7 => TRAILED,
+        _ => 0,
+    };
+    damaged_book(random, &numbers, set).0
+}
+
+/// Lengths of a sheet, among them what 251 entries would be in one byte each, a byte or an entry more or less, and 502
+/// in sixteen bits.
+pub const LENGTHS: [usize; 18] =
+    [0, 501, 503, 251, 250, 252, 500, 504, 1_004, 502 + 65_536, 1, 2, 255, 256, 257, 499, 505, 510];
+
+/// What is wrong with the sheet, 0 for its length, else 1 more than the fault of an entry; and the book behind it.
+pub fn bad_sheet_cell(what: u32, book: u64) -> Cell {
+    cell("bad sheet before a book", [what, book as u32, 0, 0])
+}
+
+pub fn sheet_length(random: &mut Random, _: &Lists, number: u64) -> Turn {
+    let length = LENGTHS[number as usize % LENGTHS.len()];
+    let which = (number + number / LENGTHS.len() as u64) % BOOKS;
+    let mut sheet = to_bytes(&valid(random));
+    sheet.resize(length, 0);
+    let expect = Expect::Refusal(1, length as u64);
+    let cells = vec![(length_cell(length), expect), (bad_sheet_cell(0, which), expect)];
+    let book = some_book(random, which);
+    single(call(random, sheet, book), cells)
+}
+
+pub fn length_cell(length: usize) -> Cell {
+    super::damage::length_cell(length, KIND)
+}
+
+/// The entry that is damaged, the fault, and the book behind the sheet; every tenth turn has the last entry below 117.
+pub fn entry_key(number: u64) -> (usize, usize, u64) {
+    let turn = number - number / 10;
+    match (number % 10, (turn % 251) as usize) {
+        (9, _) => (250, 3 + (number / 10 % 2) as usize, number / 10 % BOOKS),
+        // No entry stands before entry 0 that it could be above.
+        (_, 0) => (0, if turn % 3 == 1 { 0 } else { turn as usize % 3 }, turn / 3 % BOOKS),
+        (_, k) => (k, turn as usize % 3, turn / 3 % BOOKS),
+    }
+}
+
+/// Every entry damaged, in one of the ways.
+pub fn damaged_sheet(random: &mut Random, _: &Lists, number: u64) -> Turn {
+    let (k, fault, which) = entry_key(number);
+    let sheet: Entries = damaged(random, k, fault);
+    let expect = Expect::Refusal(2, k as u64);
+    let cells = vec![(entry_cell(k), expect), (bad_sheet_cell(1 + fault as u32, which), expect)];
+    let book = some_book(random, which);
+    single(call(random, to_bytes(&sheet), book), cells)
+}
+
+pub fn entry_cell(k: usize) -> Cell {
+    cell("damaged entry before a book", [k as u32, 0, 0, 0])
+}
+
+/// Numbers lent for the rows of no bytes.
+pub const ROOMS: [usize; 6] = [0, 1, 24, 25, 50, 5_000];
+
+/// What stands behind no bytes: nothing, or the count 0 with nothing, one byte or a row behind it.
+pub const EMPTY: u64 = 4;
+
+/// No bytes at all and books of no rows, judged under any sheet; and no bytes read into each room.
+pub fn no_rows(random: &mut Random, _: &Lists, number: u64) -> Turn {
+    let which = number % (EMPTY + ROOMS.len() as u64);
+    if let Some(room) = which.checked_sub(EMPTY) {
+        let numbers = ROOMS[room as usize];
+        let call = Call::ReadBook { book: Vec::new(), numbers, fill: random.next() };
+        return single(call, vec![(no_bytes_cell(numbers), Expect::Length(0))]);
+    }
+    let row = any_accepted(random);
+    let book = match which {
+        0 => Vec::new(),
+        1 => vec![0],
+        2 => vec![0, random.pick(&[0, 0x0A, 0x80, 0xFF])],
+        _ => [vec![0], files::of(&row.0)].concat(),
+    };
+    let expect = if which < 2 { told(None, 0) } else { Expect::Refusal(9, 1) };
+    let sheet = to_bytes(&valid(random));
+    single(call(random, sheet, book), vec![(no_rows_cell(which), expect)])
+}
+
+pub fn no_rows_cell(which: u64) -> Cell {
+    cell("no rows judged", [which as u32, 0, 0, 0])
+}
+
+pub fn no_bytes_cell(room: usize) -> Cell {
+    cell("numbers lent for no bytes", [room as u32, 0, 0, 0])
+}
