@@ -297,8 +297,8 @@ pub fn entry_cell(k: usize) -> Cell {
 /// Numbers lent for the rows of no bytes.
 pub const ROOMS: [usize; 6] = [0, 1, 24, 25, 50, 5_000];
 
-/// What stands behind no bytes: nothing, or the count 0 with nothing, one byte or a row behind it.
-pub const EMPTY: u64 = 4;
+/// No bytes at all; the count 0 with nothing, one byte or a row behind it; one byte that is another count, or part of one.
+pub const EMPTY: u64 = 7;
 
 /// No bytes at all and books of no rows, judged under any sheet; and no bytes read into each room.
 pub fn no_rows(random: &mut Random, _: &Lists, number: u64) -> Turn {
@@ -313,9 +313,16 @@ pub fn no_rows(random: &mut Random, _: &Lists, number: u64) -> Turn {
         0 => Vec::new(),
         1 => vec![0],
         2 => vec![0, random.pick(&[0, 0x0A, 0x80, 0xFF])],
-        _ => [vec![0], files::of(&row.0)].concat(),
+        3 => [vec![0], files::of(&row.0)].concat(),
+        4 => vec![0x0A],
+        5 => vec![random.within(1, 0x7F) as u8],
+        _ => vec![random.within(0x80, 0xFF) as u8],
     };
-    let expect = if which < 2 { told(None, 0) } else { Expect::Refusal(9, 1) };
+    let expect = match which {
+        0 | 1 => told(None, 0),
+        6 => Expect::Refusal(9, 0),
+        _ => Expect::Refusal(9, 1),
+    };
     let sheet = to_bytes(&valid(random));
     single(call(random, sheet, book), vec![(no_rows_cell(which), expect)])
 }

@@ -95,18 +95,20 @@ pub fn is_calm(job: &Job, sheet: &Sheet) -> bool {
 /// So many rows are unlike in more than their wall.
 const UNLIKE: usize = 12;
 
-/// Rows of any family that pass; beyond a dozen they are earlier ones before other walls, which no check looks at.
+/// Rows of any family that pass, now and then one of them twice; beyond a dozen they are earlier ones before other walls,
+/// which no check looks at.
 pub fn passing_rows(random: &mut Random, sheet: &Sheet, count: usize) -> Vec<Job> {
     let mut rows = Vec::with_capacity(count);
     for place in 0..count {
-        rows.push(match place {
-            0..UNLIKE => {
-                let family = random.within(1, 2);
-                passing(random, family, sheet)
-            }
-            _ => {
+        rows.push(match place.min(UNLIKE) {
+            earlier @ 1.. if random.once_in(8) => rows[random.below(earlier)],
+            UNLIKE => {
                 let earlier = rows[random.below(UNLIKE)];
                 with_any_wall(random, earlier)
+            }
+            _ => {
+                let family = random.within(1, 2);
+                passing(random, family, sheet)
             }
         });
     }
@@ -119,7 +121,7 @@ pub fn failing(random: &mut Random, sheet: &Sheet) -> Job {
     found.unwrap_or_else(|| any_accepted(random).with(13, 5_000).with(24, 10).with(25, 100))
 }
 
-/// The checks that fail wherever a check fails, itself among them: see the searches in marked_first_failing.rs.
+/// The checks that fail wherever a check fails, itself among them: see the searches in marked_first_failing/.
 pub fn failing_with(number: usize) -> &'static [usize] {
     match number {
         1 => &[1],

@@ -27,12 +27,12 @@ pub fn mixed(random: &mut Random, _: &Lists, _: u64) -> Turn {
 }
 
 /// Numbers of rows: none, few, and about 127 and 200.
-const SIZES: [usize; 10] = [0, 1, 2, 3, 5, 40, 127, 128, 199, 200];
+const SIZES: [usize; 10] = [200, 0, 1, 128, 2, 199, 3, 127, 5, 40];
 
 /// Which rows fail: none, the first, the one in the middle, the last, several behind rows that pass, all.
 const PATTERNS: usize = 6;
 
-/// Turns go through the keys in strides of so many, so that the first few reach all patterns; 49 is no multiple of it.
+/// Turns go through the 49 keys in strides of so many, so that the first few reach all patterns; 7 does not divide it.
 const STRIDE: usize = 10;
 
 /// Number of rows and which of them fail, where there are rows enough to tell the patterns apart.

@@ -80,8 +80,8 @@ pub fn cells(records: &[u8], w: u32, lent: &mut [u8]) -> u64 {
 
 /// The first row of a book that has a failed check, and the rows judged: 1, 2, then 9 of the count, 10, 9, 11.
 pub fn first_failing(sheet: &[u8], book: &[u8], lent: &mut [u32; 2]) -> u64 {
-    one_number(first_failing::answer(sheet, book).map(|answer| {
-        *lent = answer;
+    one_number(first_failing::answer(sheet, book).map(|told| {
+        *lent = told;
         2
     }))
 }

@@ -23,7 +23,7 @@ fn told(rows: &[Row], sheet: &Sheet) -> [u32; 2] {
 }
 
 /// The twelve verdicts of a job at its own height.
-pub fn verdicts(job: &Job, sheet: &Sheet) -> [u8; 12] {
+fn verdicts(job: &Job, sheet: &Sheet) -> [u8; 12] {
     std::array::from_fn(|place| check(place + 1, job, sheet, job.field(7)).verdict())
 }
 
