@@ -81,6 +81,34 @@ pub fn shaken(random: &mut Random, lists: &Lists, number: u64) -> Turn {
     judged(random, read)
 }
 
+/// As many turns as there are ways of damage, those that cut the book among them, and thirds of the columns.
+pub const BEHIND: u64 = 18;
+
+/// The way, 5 for bytes after the last number, and the third of the columns in which a later row is damaged.
+pub fn behind_key(number: u64) -> [u32; 2] {
+    [(number % 6) as u32, (number / 6 % 3) as u32]
+}
+
+/// Damage to a row behind one that fails: the book is refused, whatever the rows before the damaged one would show.
+pub fn behind(random: &mut Random, _: &Lists, number: u64) -> Turn {
+    let key @ [way, third] = behind_key(number);
+    let (sheet, size) = (Sheet(valid(random)), random.within(2, 4) as usize);
+    let mut rows = passing_rows(random, &sheet, size);
+    rows[0] = failing(random, &sheet);
+    let (numbers, column) = (in_columns(&rows), third as usize * 8 + random.below(8));
+    let damaged = 1 + column * size + 1 + random.below(size - 1);
+    let (book, offset) = match way {
+        5 => ([files::of(&numbers), vec![random.next() as u8]].concat(), files::of(&numbers).len()),
+        _ => files::broken(random, &numbers, damaged, way as usize),
+    };
+    let cells = vec![(behind_cell(key), Expect::Refusal(9, offset as u64))];
+    single(call(random, to_bytes(&sheet.0), book), cells)
+}
+
+pub fn behind_cell([way, third]: [u32; 2]) -> Cell {
+    cell("damage behind a failing row", [way, third, 0, 0])
+}
+
 /// The turn of one call on rows under a valid sheet.
 fn on_rows(random: &mut Random, rows: &[Job], cells: Vec<(Cell, Expect)>) -> Turn {
     let sheet = to_bytes(&valid(random));
@@ -211,8 +239,8 @@ pub fn faults_cell(set: u64) -> Cell {
     cell("faults of a judged book", [set as u32, 0, 0, 0])
 }
 
-/// The books that stand behind a bad sheet: row 0 fails, none does, no bytes, no rows, a damaged count, one above 200, a
-/// damaged number, bytes too many, a bad row.
+/// The books that stand behind a bad sheet: any rows, rows that pass, no bytes, no rows, a damaged count, one above
+/// 200, a damaged number, bytes too many, a bad row.
 pub const BOOKS: u64 = 9;
 
 fn some_book(random: &mut Random, which: u64) -> Vec<u8> {
@@ -297,7 +325,7 @@ pub fn entry_cell(k: usize) -> Cell {
 /// Numbers lent for the rows of no bytes.
 pub const ROOMS: [usize; 6] = [0, 1, 24, 25, 50, 5_000];
 
-/// No bytes at all; the count 0 with nothing, one byte or a row behind it; one byte that is another count, or part of one.
+/// No bytes at all; the count 0 with nothing, one byte or a row behind it; one byte of another count.
 pub const EMPTY: u64 = 7;
 
 /// No bytes at all and books of no rows, judged under any sheet; and no bytes read into each room.

@@ -95,8 +95,8 @@ pub fn is_calm(job: &Job, sheet: &Sheet) -> bool {
 /// So many rows are unlike in more than their wall.
 const UNLIKE: usize = 12;
 
-/// Rows of any family that pass, now and then one of them twice; beyond a dozen they are earlier ones before other walls,
-/// which no check looks at.
+/// Rows of any family that pass, now and then one of them twice. Beyond a dozen they are earlier ones before other
+/// walls, which no check looks at.
 pub fn passing_rows(random: &mut Random, sheet: &Sheet, count: usize) -> Vec<Job> {
     let mut rows = Vec::with_capacity(count);
     for place in 0..count {

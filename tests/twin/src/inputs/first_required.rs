@@ -4,7 +4,7 @@ use super::Lists;
 use super::book_damage::*;
 use super::book_rows::PAIRS;
 use super::ends::{CONTRADICTIONS, contradiction_cell, end_cell};
-use super::first_damage::{self, BAD_ROWS, BOOKS, EMPTY, LENGTHS, ROOMS, SETS};
+use super::first_damage::{self, BAD_ROWS, BEHIND, BOOKS, EMPTY, LENGTHS, ROOMS, SETS, behind_cell, behind_key};
 use super::first_damage::{bad_far_cell, bad_row_cell, bad_row_key, bad_sheet_cell, judged_cell};
 use super::first_damage::{no_bytes_cell, no_rows_cell, two_bad_cell};
 use super::first_failing::{aims, failing_with};
@@ -53,6 +53,7 @@ fn damaged_bytes() -> Vec<Cell> {
     cells.extend((0..SAME_DAMAGES as usize).map(|number| same_damage_cell(number % 3, number / 3)));
     let mut cells: Vec<Cell> = cells.into_iter().map(judged_cell).collect();
     cells.extend((0..SETS).map(first_damage::faults_cell));
+    cells.extend((0..BEHIND).map(behind_key).map(behind_cell));
     cells.extend([1, 2, 9, 10, 11].map(|number| refusal_cell(first_damage::KIND, number, 0)));
     cells
 }

@@ -1,4 +1,4 @@
-//! The turns on books that are answered: where the first failing row stands, which check fails there, and what is around.
+//! The turns on books that are judged: where the first failing row stands, which check fails there, what is around it.
 
 use super::books::{accepted, some_rows};
 use super::first_failing::*;
@@ -159,8 +159,8 @@ pub fn families_cell([before, family, tube]: [u32; 3]) -> Cell {
 /// As many turns as there are families and ways in which check 8 is not due.
 pub const CALM: u64 = 6;
 
-/// The family, and where check 8 is not due: in every row, none failing (0), in the failing row too (1), in all before a
-/// row that fails it (2).
+/// The family, and where check 8 is not due: in every row, none failing (0), in the failing row too (1), in all before
+/// a row that fails it (2).
 pub fn calm_key(number: u64) -> [u32; 2] {
     [1 + (number % 2) as u32, (number / 2 % 3) as u32]
 }

@@ -112,7 +112,7 @@ struct Kind {
     calls: usize,
 }
 
-const KINDS: [Kind; 134] = [
+const KINDS: [Kind; 135] = [
     Kind { make: kinds::uniform, turns: 140, calls: 1 },
     Kind { make: damage::wild, turns: 24, calls: 1 },
     Kind { make: damage::end, turns: 90, calls: 1 },
@@ -243,6 +243,7 @@ const KINDS: [Kind; 134] = [
     Kind { make: first_damage::count, turns: 1, calls: 1 },
     Kind { make: first_damage::damaged_count, turns: 1, calls: 1 },
     Kind { make: first_damage::broken_number, turns: 8, calls: 1 },
+    Kind { make: first_damage::behind, turns: 1, calls: 1 },
     Kind { make: first_damage::cut, turns: 2, calls: 1 },
     Kind { make: first_damage::two_places, turns: 1, calls: 1 },
     Kind { make: first_damage::same_damage, turns: 2, calls: 1 },

@@ -14,7 +14,7 @@ fn no_rows() -> Cases {
 }
 
 /// J fails 11 alone. K: N = 1.2 (12,000 + 6,746) + 1.4 × 11,520 = 38,624 to 0.3096 × 452 × 205 = 28,688 fails 7.
-/// L and LEAST: 11 is 0.4 × 11,000 × 0.0101 = 44 and 0.4 × 10,000 × 0.01 = 40. GREATEST: q 10,000 on bays of 200 fails 1.
+/// L and LEAST: 11 is to 0.4 × 11,000 × 0.0101 = 44 and 0.4 × 10,000 × 0.01 = 40. GREATEST: q is 10,000, fails 1.
 fn one_row() -> Cases {
     let one = |groups| book(&[0x01], &[groups]);
     named([

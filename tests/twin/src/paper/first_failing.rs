@@ -1,4 +1,4 @@
-//! The first row of a book that has a failed check, as request 9/14 has it: all rows are judged, and the first is named.
+//! The first row of a book that has a failed check, as request 9/14 has it: all are judged, the first is named.
 
 use super::book::{self, Row};
 use super::checks::check;
