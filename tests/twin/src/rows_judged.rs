@@ -50,8 +50,7 @@ fn told(season: &Season, read: &Answer, answer: &Answer) -> Result<Cell, String>
     if read.refusal() != 0 {
         return Err(format!("first failing: answered, and the book is read with refusal {}", read.refusal()));
     }
-    let reports: Option<Vec<Report>> = up_to_failing(season).collect();
-    let reports = reports.ok_or("first failing: a row has no report")?;
+    let reports = up_to_failing(season).ok_or("first failing: a row has no report")?;
     let failing = reports.last().filter(|report| shows_2(report));
     let place = failing.map_or(NONE, |_| reports.len() as u32 - 1);
     let wanted = [place, reports.len() as u32];
@@ -65,13 +64,16 @@ fn told(season: &Season, read: &Answer, answer: &Answer) -> Result<Cell, String>
 }
 
 /// The reports of the rows, to the first that shows a failed check; none where a row is refused.
-fn up_to_failing(season: &Season) -> impl Iterator<Item = Option<Report>> {
-    let reports = season.rows.iter().map(|row| report(season, row));
-    reports.scan(false, |ended, report| {
-        let goes_on = !*ended;
-        *ended |= report.as_ref().is_none_or(shows_2);
-        goes_on.then_some(report)
-    })
+fn up_to_failing(season: &Season) -> Option<Vec<Report>> {
+    let mut reports = Vec::new();
+    for row in &season.rows {
+        let report = report(season, row)?;
+        reports.push(report);
+        if shows_2(&report) {
+            break;
+        }
+    }
+    Some(reports)
 }
 
 fn shows_2(report: &Report) -> bool {

@@ -4,11 +4,11 @@ use super::Lists;
 use super::book_damage::*;
 use super::book_rows::PAIRS;
 use super::ends::{CONTRADICTIONS, contradiction_cell, end_cell};
-use super::first_damage::{self, BAD_ROWS, BEHIND, BOOKS, EMPTY, LENGTHS, ROOMS, SETS, behind_cell, behind_key};
-use super::first_damage::{bad_far_cell, bad_row_cell, bad_row_key, bad_sheet_cell, judged_cell};
-use super::first_damage::{no_bytes_cell, no_rows_cell, two_bad_cell};
+use super::first_damage::{self, BAD_ROWS, BEHIND, SETS, behind_cell, behind_key};
+use super::first_damage::{bad_far_cell, bad_row_cell, bad_row_key, judged_cell, two_bad_cell};
 use super::first_failing::{aims, failing_with};
 use super::first_rows::{self, *};
+use super::first_sheets::{self, BOOKS, EMPTY, LENGTHS, ROOMS, bad_sheet_cell, no_bytes_cell, no_rows_cell};
 use super::required::refusal_cell;
 use crate::coverage::Cell;
 use crate::round_trip::empty_season_cell;
@@ -69,8 +69,8 @@ fn bad_rows(lists: &Lists) -> Vec<Cell> {
 }
 
 fn bad_sheets() -> Vec<Cell> {
-    let mut cells: Vec<Cell> = LENGTHS.map(first_damage::length_cell).into();
-    cells.extend((0..251).map(first_damage::entry_cell));
+    let mut cells: Vec<Cell> = LENGTHS.map(first_sheets::length_cell).into();
+    cells.extend((0..251).map(first_sheets::entry_cell));
     cells.extend((0..6).flat_map(|what| (0..BOOKS).map(move |book| bad_sheet_cell(what, book))));
     cells
 }

@@ -25,6 +25,7 @@ pub mod first_damage;
 pub mod first_failing;
 pub mod first_required;
 pub mod first_rows;
+pub mod first_sheets;
 pub mod heights;
 pub mod jobs;
 pub mod kinds;
@@ -237,9 +238,9 @@ const KINDS: [Kind; 135] = [
     Kind { make: first_damage::end, turns: 7, calls: 1 },
     Kind { make: first_damage::wild, turns: 1, calls: 1 },
     Kind { make: first_damage::faults, turns: 3, calls: 1 },
-    Kind { make: first_damage::sheet_length, turns: 1, calls: 1 },
-    Kind { make: first_damage::damaged_sheet, turns: 6, calls: 1 },
-    Kind { make: first_damage::no_rows, turns: 1, calls: 1 },
+    Kind { make: first_sheets::sheet_length, turns: 1, calls: 1 },
+    Kind { make: first_sheets::damaged_sheet, turns: 6, calls: 1 },
+    Kind { make: first_sheets::no_rows, turns: 1, calls: 1 },
     Kind { make: first_damage::count, turns: 1, calls: 1 },
     Kind { make: first_damage::damaged_count, turns: 1, calls: 1 },
     Kind { make: first_damage::broken_number, turns: 8, calls: 1 },
