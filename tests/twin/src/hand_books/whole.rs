@@ -16,7 +16,7 @@ fn empty_book(cases: &mut Cases) {
     cases.read_refused("no rows and a line's end", &[0x00, 0x0A], 0, 9, 1);
     cases.read_refused("no rows and J's columns", &[&[0x00], &BOOK_J[1..]].concat(), 50, 9, 1);
     // Before request 9/14 no bytes at all were a count that isn't there, damaged at 0; they are an empty season now.
-    for lent in [0, 1, 24, 25, 50, 5_000] {
+    for lent in [0, 1, 24, 25, 50, 5_050] {
         cases.reads("no bytes at all", &[], lent, 0, &[]);
     }
 }

@@ -51,7 +51,7 @@ pub fn passes(job: &Job, sheet: &Sheet) -> bool {
 }
 
 /// A job that most sheets let pass: its height, loads and wind lean to the low end, tie and ground are strong.
-fn mild(random: &mut Random, family: u32) -> Job {
+fn leaning_low(random: &mut Random, family: u32) -> Job {
     let (tube, enclosure) = (random.within(1, 2), random.within(1, 3));
     let job = accepted(random, family, tube, enclosure);
     let job = [(7, 2), (9, 3), (11, 4), (12, 4), (13, 3), (15, 3), (16, 2)]
@@ -65,7 +65,11 @@ fn mild(random: &mut Random, family: u32) -> Job {
 
 /// A job that every sheet lets pass: 1,300 N at most on a pole that bears 10,000.
 fn light(random: &mut Random, family: u32) -> Job {
-    let job = mild(random, family).with(4, 60).with(5, random.within(60, 80)).with(6, 2).with(7, random.within(1, 100));
+    let job = leaning_low(random, family)
+        .with(4, 60)
+        .with(5, random.within(60, 80))
+        .with(6, 2)
+        .with(7, random.within(1, 100));
     let job =
         job.with(9, 1).with(10, 1).with(11, random.within(0, 500)).with(12, random.within(500, 1_000)).with(13, 0);
     job.with(14, random.within(50, 100)).with(15, random.within(0, 100)).with(16, random.within(100, 1_000))
@@ -73,22 +77,22 @@ fn light(random: &mut Random, family: u32) -> Job {
 
 /// A job that passes every check under a sheet.
 pub fn passing(random: &mut Random, family: u32, sheet: &Sheet) -> Job {
-    let found = (0..40).find_map(|_| Some(mild(random, family)).filter(|job| passes(job, sheet)));
+    let found = (0..40).find_map(|_| Some(leaning_low(random, family)).filter(|job| passes(job, sheet)));
     found.unwrap_or_else(|| light(random, family))
 }
 
 /// A job that passes every check, check 8 not being due.
-pub fn passing_calm(random: &mut Random, family: u32, sheet: &Sheet) -> Job {
-    let calm = |job: Job, wind| job.with(17, 1).with(15, wind).with(6, 2);
+pub fn passing_not_due(random: &mut Random, family: u32, sheet: &Sheet) -> Job {
+    let in_light_wind = |job: Job, wind| job.with(17, 1).with(15, wind).with(6, 2);
     let found = (0..40).find_map(|_| {
-        let (job, wind) = (mild(random, family), random.within(0, 350));
-        Some(calm(job, wind)).filter(|job| passes(job, sheet) && is_calm(job, sheet))
+        let (job, wind) = (leaning_low(random, family), random.within(0, 350));
+        Some(in_light_wind(job, wind)).filter(|job| passes(job, sheet) && is_not_due(job, sheet))
     });
-    found.unwrap_or_else(|| calm(light(random, family), 100))
+    found.unwrap_or_else(|| in_light_wind(light(random, family), 100))
 }
 
 /// Check 8 is not due.
-pub fn is_calm(job: &Job, sheet: &Sheet) -> bool {
+pub fn is_not_due(job: &Job, sheet: &Sheet) -> bool {
     job.check(8, sheet).verdict() == 0
 }
 
@@ -157,7 +161,7 @@ pub fn failing_alone(random: &mut Random, aim: Aim) -> Option<Edge> {
 
 /// A job of which the check may fail before others, and the field that brings it there.
 fn beside(random: &mut Random, Aim { check, family, tube }: Aim) -> (Job, usize) {
-    let job = mild(random, family).with(2, tube);
+    let job = leaning_low(random, family).with(2, tube);
     let [wide, narrow] = if family == 1 { [155, 105] } else { [random.within(135, 150), random.within(75, 118)] };
     match check {
         1 => (job.with(3, wide).with(4, random.within(60, 150)).with(12, 10_000), 11),

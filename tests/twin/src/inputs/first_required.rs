@@ -23,7 +23,7 @@ fn told() -> Vec<Cell> {
     cells.extend(first_rows::FAR.map(far_cell));
     cells.extend((0..ALONE).map(alone_key).map(alone_cell));
     cells.extend((0..FAMILIES).map(families_key).map(families_cell));
-    cells.extend((0..CALM).map(calm_key).map(calm_cell));
+    cells.extend((0..NOT_DUE).map(not_due_key).map(not_due_cell));
     cells.extend((0..18).map(shape_key).map(shape_cell));
     cells
 }

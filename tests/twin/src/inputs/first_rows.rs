@@ -157,35 +157,35 @@ pub fn families_cell([before, family, tube]: [u32; 3]) -> Cell {
 }
 
 /// As many turns as there are families and ways in which check 8 is not due.
-pub const CALM: u64 = 6;
+pub const NOT_DUE: u64 = 6;
 
 /// The family, and where check 8 is not due: in every row, none failing (0), in the failing row too (1), in all before
 /// a row that fails it (2).
-pub fn calm_key(number: u64) -> [u32; 2] {
+pub fn not_due_key(number: u64) -> [u32; 2] {
     [1 + (number % 2) as u32, (number / 2 % 3) as u32]
 }
 
 /// Check 8 not due is no failure.
-pub fn calm(random: &mut Random, _: &Lists, number: u64) -> Turn {
-    let key @ [family, way] = calm_key(number);
+pub fn not_due(random: &mut Random, _: &Lists, number: u64) -> Turn {
+    let key @ [family, way] = not_due_key(number);
     let found = (0..60).find_map(|_| {
         let (check, tube) = (if way == 2 { 8 } else { random.pick(&[1, 5, 11]) }, random.within(1, 2));
         failing_alone(random, Aim { check, family, tube })
-            .filter(|edge| way != 1 || is_calm(&edge.failing, &edge.sheet))
+            .filter(|edge| way != 1 || is_not_due(&edge.failing, &edge.sheet))
     });
     let Some(edge) = found else {
         return plain(random);
     };
     let count = 1 + random.below(4);
-    let mut rows: Vec<Job> = (0..count).map(|_| passing_calm(random, family, &edge.sheet)).collect();
+    let mut rows: Vec<Job> = (0..count).map(|_| passing_not_due(random, family, &edge.sheet)).collect();
     if way > 0 {
         rows.push(edge.failing);
     }
     let place = if way > 0 { Some(count) } else { None };
-    turn(random, &edge.sheet.0, &rows, vec![(calm_cell(key), told(place, rows.len()))])
+    turn(random, &edge.sheet.0, &rows, vec![(not_due_cell(key), told(place, rows.len()))])
 }
 
-pub fn calm_cell([family, way]: [u32; 2]) -> Cell {
+pub fn not_due_cell([family, way]: [u32; 2]) -> Cell {
     cell("check 8 not due in a book", [family, way, 0, 0])
 }
 

@@ -97,8 +97,8 @@ pub fn entry_cell(k: usize) -> Cell {
     cell("damaged entry before a book", [k as u32, 0, 0, 0])
 }
 
-/// Numbers lent for the rows of no bytes.
-pub const ROOMS: [usize; 6] = [0, 1, 24, 25, 50, 5_000];
+/// Numbers lent for the rows of no bytes, more than 200 rows among them.
+pub const ROOMS: [usize; 6] = [5_050, 0, 1, 24, 25, 50];
 
 /// No bytes at all; the count 0 with nothing, one byte or a row behind it; one byte of another count.
 pub const EMPTY: u64 = 7;

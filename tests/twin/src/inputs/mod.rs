@@ -230,7 +230,7 @@ const KINDS: [Kind; 135] = [
     Kind { make: first_rows::far_down, turns: 1, calls: 1 },
     Kind { make: first_rows::alone, turns: 3, calls: 1 },
     Kind { make: first_rows::families, turns: 1, calls: 1 },
-    Kind { make: first_rows::calm, turns: 1, calls: 1 },
+    Kind { make: first_rows::not_due, turns: 1, calls: 1 },
     Kind { make: first_rows::shape, turns: 1, calls: 1 },
     Kind { make: first_damage::one_bad, turns: 2, calls: 1 },
     Kind { make: first_damage::two_bad, turns: 1, calls: 1 },
