@@ -4,9 +4,13 @@ use mathlib.Core.Path.{◌≡◌, ◌∙◌, refl, ap}
 use mathlib.Core.List.{List, ◌++◌, append-nil}
 use Prim.Native.Nat.{ℕ, ◌+◌, ◌*◌, min}
 use native.Mathlib.Omega.{arith}
+use mathlib.Core.Bool.{Bool, true, false}
+use lib.Dec.{eqb}
 use lib.ListN.{length, drop, drop_of_length-le}
 use Rattle.std.specs.Prelude.{Result, Ok, Err}
-use Rattle.basis.specs.Refusal.{Examined}
+use Rattle.basis.specs.Refusal.{Examined, unless, first}
+use Rattle.basis.specs.declared.Refusal.TheVariants.{SheetLength}
+use Rattle.sheet.specs.Sheet.{examination}
 use Rattle.basis.specs.Writing.{written_or, left_or}
 use Rattle.basis.specs.Rows.{Refused, Follows}
 use Rattle.basis.proofs.Rows.{refused_first}
@@ -18,13 +22,26 @@ use Rattle.jobfile.specs.Kind.{Kind, scaffold, support, count}
 use Rattle.jobfile.specs.Read.{job_as, job_in}
 use Rattle.basis.specs.declared.Refusal.{Refusal}
 use Rattle.rembilung.specs.Code.{written_code}
-use Rattle.rembilung.specs.Call.{text, call_code, call_buffer, numbers_as, write_code, write_buffer, count_in, left_in, read_code, read_buffer}
+use Rattle.rembilung.specs.Call.{entries_of, sheet_refusal, refusal_in, text, call_code, call_buffer, numbers_as, write_code, write_buffer, count_in, left_in, read_code, read_buffer}
 use Rattle.rembilung.specs.Table.{Refuses, ReadRow, Reads, WriteRow, Writes, report_of, CallRow, Answers}
 use Rattle.rembilung.proofs.Table.{reads_job, reads_refused, write_follows, text_is, call_follows}
 
 -- the code of an answer that is refused
 pub code_refused : (answer : Result ℕ Refusal) (n p : ℕ) → Refused answer n p → written_code answer ≡ n * 4294967296 + min p 4294967295
 code_refused answer n p a = rw (a.is, a.number_is, a.place_is) refl
+
+-- an answer is refused as what it refuses
+pub in_refused : {A : Type 0} (answer : Result A Refusal) (n p : ℕ) → Refused answer n p → Refused (refusal_in answer) n p
+in_refused answer n p r = record { refusal = r.refusal; is = rw r.is refl; number_is = r.number_is; place_is = r.place_is }
+
+-- what is refused of a sheet lent as bytes, and then what is answered under its entries
+pub sheet_first : {A : Type 0} (sheet : List ℕ) (rest : Result A Refusal)
+    → unless (eqb (length sheet) 502) (SheetLength (length sheet)) (first (examination (entries_of sheet)) rest) ≡ first (sheet_refusal sheet) rest
+sheet_first sheet rest = go (eqb (length sheet) 502)
+  where
+    go : (b : Bool) → unless b (SheetLength (length sheet)) (first (examination (entries_of sheet)) rest) ≡ first (unless b (SheetLength (length sheet)) (examination (entries_of sheet))) rest
+    go true = refl
+    go false = refl
 
 -- what is returned of a length
 pub returned : {w : Result ℕ Refusal} {n : ℕ} → w ≡ Ok n → written_code w ≡ n

@@ -3,14 +3,12 @@
 use Prim.Native.Nat.{ℕ, ◌+◌, ◌≤◌}
 use mathlib.Core.Path.{◌≡◌, ◌∙◌, refl, sym, ap}
 use mathlib.Core.List.{List, []}
-use mathlib.Core.Bool.{Bool, true, false}
 use mathlib.Core.Logic.{◌⊎◌, inl, inr, ⊎_elim}
 use native.Mathlib.Omega.{arith}
-use lib.Dec.{eqb, lit≤}
+use lib.Dec.{lit≤}
 use lib.ListN.{length}
 use Rattle.std.specs.Prelude.{Result, Ok}
 use Rattle.basis.specs.Refusal.{number, place, Examined, nothing, unless, first}
-use Rattle.sheet.specs.Sheet as Sheet
 use Rattle.basis.specs.declared.Refusal.TheVariants.{SheetLength}
 use Rattle.basis.specs.declared.Refusal.{Refusal}
 use Rattle.basis.specs.declared.Refusal.TheVariants as Case
@@ -42,7 +40,7 @@ use Rattle.rembilung.specs.Between.{BetweenRow, Ends, Lies, verdict_at, height_o
 use Rattle.rembilung.specs.Header.{Halves}
 use Rattle.rembilung.proofs.Table.{sheet_follows}
 use Rattle.rembilung.proofs.Header.{halves}
-use Rattle.rembilung.proofs.Answered.{refuses}
+use Rattle.rembilung.proofs.Answered.{in_refused, sheet_first, refuses}
 use Rattle.rembilung.proofs.Demands.{judged, stability_judged}
 
 -- ---- What is refused
@@ -72,14 +70,6 @@ of_harsh_none : {e : Examined} → e ≡ nothing → of_harsh e ≡ nothing
 unfolding of_harsh
 of_harsh_none e = rw e refl
 
--- an answer is refused as what it refuses
-pub in_refused : {A : Type 0} (answer : Result A Refusal) (n p : ℕ) → Refused answer n p → Refused (refusal_in answer) n p
-in_refused answer n p r = record { refusal = r.refusal; is = rw r.is refl; number_is = r.number_is; place_is = r.place_is }
-
-pub unless_first : {A : Type 0} (b : Bool) (r : Refusal) (e : Examined) (rest : Result A Refusal) → unless b r (first e rest) ≡ first (unless b r e) rest
-unless_first true r e rest = refl
-unless_first false r e rest = refl
-
 module _ (sheet mild harsh : List ℕ) where
   abbrev m : Job
   m = job_of mild
@@ -102,7 +92,7 @@ module _ (sheet mild harsh : List ℕ) where
   after_mild_job = first (examination m) after_harsh
 
   told_is : between_told sheet mild harsh ≡ first (sheet_refusal sheet) after_mild_job
-  told_is = unless_first (eqb (length sheet) 502) (SheetLength (length sheet)) (Sheet.examination (entries_of sheet)) after_mild_job
+  told_is = sheet_first sheet after_mild_job
 
   from_sheet : SheetStands sheet → between_told sheet mild harsh ≡ after_mild_job
   from_sheet s = told_is ∙ then_rest (sheet_follows sheet) after_mild_job s

@@ -39,8 +39,7 @@ use Rattle.rembilung.specs.Header.{report_most, Halves}
 use Rattle.rembilung.specs.Failing.{FirstRow, Searches, SomeBook, Says, FirstFailing}
 use Rattle.rembilung.proofs.Table.{sheet_follows, stands_reads}
 use Rattle.rembilung.proofs.Header.{halves, header}
-use Rattle.rembilung.proofs.Answered.{refuses}
-use Rattle.rembilung.proofs.Between.{unless_first, in_refused}
+use Rattle.rembilung.proofs.Answered.{in_refused, sheet_first, refuses}
 use Rattle.rembilung.proofs.Demands.{verdict_is}
 
 module _ (sheet book : List ℕ) where
@@ -48,7 +47,7 @@ module _ (sheet book : List ℕ) where
   of_book = first (book_refusal book) (Ok (told (entries_of sheet) book))
 
   told_is : first_told sheet book ≡ first (sheet_refusal sheet) of_book
-  told_is = unless_first (eqb (length sheet) 502) (SheetLength (length sheet)) (Sheet.examination (entries_of sheet)) of_book
+  told_is = sheet_first sheet of_book
 
   from_sheet : SheetStands sheet → first_told sheet book ≡ of_book
   from_sheet s = told_is ∙ then_rest (sheet_follows sheet) of_book s
