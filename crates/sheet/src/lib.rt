@@ -10,6 +10,7 @@ ghost use Rattle.sheet.specs.Pass.{falling, sound};
 ghost use Rattle.sheet.specs.Bytes.{entries};
 
 use basis::Refusal;
+pub use standing::StabilityFactor;
 use std::array;
 
 // The entries of 502 bytes, each low byte first.
