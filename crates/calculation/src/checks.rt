@@ -1,17 +1,19 @@
 // The twelve checks, each as a verdict: 0 not due, 1 passes, 2 fails.
 ghost use Rattle.std.specs.Prelude.{cond, ◌≡◌, ◌≤◌, ◌<◌};
 ghost use Rattle.kinds.specs.Kinds.{soil_number};
+ghost use Rattle.job.specs.Bounds.{Bounds};
 ghost use Rattle.section5.specs.Section5.{verdict};
 ghost use Rattle.calculation.specs.Whole.{deflects, check1, check2, check3, check4, check5, check6, check9, not_due, base_bears, ground_bears, verdict12, verdicts};
 
 use crate::columns::{Column, bears_of, bends_of};
 use crate::constants::{
-    factor_of, modulus_of, radius_of, slender_limit, soil_factor, stiffness_of,
+    factor_of, modulus_of, slender_limit, soil_factor, stiffness_of, tube_radius,
 };
 use crate::effects::Effects;
 use crate::figures::{
     face_of, ledger_load, ledger_moment, slip_of, tie_force, transom_load, transom_moment,
 };
+use job::Job;
 use job::bounded::BoundedJob;
 use kinds::{Enclosure, Soil};
 use section5::{CHECKS, Heights};
@@ -77,17 +79,26 @@ fn check6_of(j: &BoundedJob) -> u8
 {
     let step = u64::from(j.step);
     let length = factor_of(j) * step;
-    verdict_of(length <= slender_limit(j.family) * radius_of(j.tube))
+    verdict_of(length <= slender_limit(j.family) * tube_radius(j.tube))
 }
 
 // Check 8 is not due (4.3.2).
-pub fn not_due_of(j: &BoundedJob) -> bool
+pub fn check8_not_due(j: &BoundedJob) -> bool
     ensures { result ≡ not_due j.now }
 {
     match j.enclosure {
         Enclosure::Open => j.wind <= 350 && face_of(j) <= 300000,
         Enclosure::HalfClosed | Enclosure::FullyClosed => false,
     }
+}
+
+// The same of a job as it was keyed in.
+// requires: a caller shows the bounds by examining the job.
+pub fn not_due_of(j: Job) -> bool
+    requires { Bounds j }
+    ensures { result ≡ not_due j }
+{
+    check8_not_due(&BoundedJob::read(j))
 }
 
 fn check9_of(j: &BoundedJob, e: Effects) -> u8
@@ -136,6 +147,20 @@ impl Ground {
     }
 }
 
+// The same of a soil's number, whatever it is.
+// requires: a caller shows the bounds by examining the job or the support.
+pub fn ground_bears(soil: u32, strength: u32, pad: u32, n: u64) -> bool
+    requires { (strength ≤ 2000) × (pad ≤ 10000) }
+    ensures { result ≡ ground_bears soil strength pad n }
+{
+    let ground = Ground {
+        soil: Soil::from(soil),
+        strength,
+        pad,
+    };
+    ground.bears(n)
+}
+
 fn check11_of(j: &BoundedJob, e: Effects) -> u8
     ensures { result ≡ verdict (ground_bears j.now.soil j.now.strength j.now.pad e.n) }
 {
@@ -159,7 +184,7 @@ fn check12_of(j: &BoundedJob, heights: Heights) -> u8
 }
 
 // The row of twelve numbers, the form that the paper requires.
-pub fn verdicts_of(c: Column, j: &BoundedJob, e: Effects, heights: Heights) -> [u8; CHECKS]
+pub fn verdicts_by_check(c: Column, j: &BoundedJob, e: Effects, heights: Heights) -> [u8; CHECKS]
     ensures { result ≡ verdicts c j.now e.wk e.mw e.n e.nw e.not_due heights }
 {
     let n = e.n;
@@ -176,4 +201,13 @@ pub fn verdicts_of(c: Column, j: &BoundedJob, e: Effects, heights: Heights) -> [
     let v11 = check11_of(j, e);
     let v12 = check12_of(j, heights);
     [v1, v2, v3, v4, v5, v6, v7, v8, v9, v10, v11, v12]
+}
+
+// The same of a job as it was keyed in.
+// requires: a caller shows the bounds by examining the job.
+pub fn verdicts_of(c: Column, j: Job, e: Effects, heights: Heights) -> [u8; CHECKS]
+    requires { Bounds j }
+    ensures { result ≡ verdicts c j e.wk e.mw e.n e.nw e.not_due heights }
+{
+    verdicts_by_check(c, &BoundedJob::read(j), e, heights)
 }

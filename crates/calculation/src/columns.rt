@@ -35,7 +35,7 @@ impl Model for Column {
 }
 
 // The column of a tube under a sheet, at a slenderness.
-pub fn column_of(sheet: &StandingSheet<'_>, tube: Tube, z: Slenderness) -> Column
+pub fn tube_column(sheet: &StandingSheet<'_>, tube: Tube, z: Slenderness) -> Column
     ensures { result ≡ column_at sheet.now (tube_number tube) z }
 {
     let phi = sheet.stability_factor(z);
@@ -45,6 +45,13 @@ pub fn column_of(sheet: &StandingSheet<'_>, tube: Tube, z: Slenderness) -> Colum
         area: area_of(tube),
         modulus: modulus_of(tube),
     }
+}
+
+// The same of a tube's number, whatever it is.
+pub fn column_of(sheet: &StandingSheet<'_>, tube: u32, z: Slenderness) -> Column
+    ensures { result ≡ column_at sheet.now tube z }
+{
+    tube_column(sheet, Tube::from(tube), z)
 }
 
 // The greatest force that check 7 passes.

@@ -27,13 +27,20 @@ pub(crate) fn modulus_of(tube: Tube) -> u64
 }
 
 // i, tenths of a mm.
-pub fn radius_of(tube: Tube) -> u64
+pub fn tube_radius(tube: Tube) -> u64
     ensures { Is result (radius (tube_number tube)) 170 × (158 ≤ result) }
 {
     match tube {
         Tube::Tube48 => 158,
         Tube::Tube51 => 170,
     }
+}
+
+// The same of a tube's number, whatever it is.
+pub fn radius_of(tube: u32) -> u64
+    ensures { Is result (radius tube) 170 × (158 ≤ result) }
+{
+    tube_radius(Tube::from(tube))
 }
 
 pub(crate) fn stiffness_of(tube: Tube) -> u64

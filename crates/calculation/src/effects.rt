@@ -2,8 +2,8 @@
 ghost use Rattle.std.specs.Prelude.{◌≡◌};
 ghost use Rattle.calculation.specs.Whole.{effects};
 
-use crate::checks::not_due_of;
-use crate::figures::{shape_of, wind_moment, wind_pressure};
+use crate::checks::check8_not_due;
+use crate::figures::{enclosure_shape, wind_moment, wind_pressure};
 use crate::forces::{pole_force, pole_force_wind};
 use job::bounded::BoundedJob;
 use std::marker::Model;
@@ -35,13 +35,13 @@ impl Model for Effects {
 pub fn effects_of(j: &BoundedJob) -> Effects
     ensures { result ≡ effects j.now }
 {
-    let shape = shape_of(j.enclosure, j.wall, j.shield);
+    let shape = enclosure_shape(j.enclosure, j.wall, j.shield);
     let wk = wind_pressure(j.exposure, shape, j.wind);
     Effects {
         wk,
         mw: wind_moment(wk, j.la, j.step),
         n: pole_force(j),
         nw: pole_force_wind(j),
-        not_due: not_due_of(j),
+        not_due: check8_not_due(j),
     }
 }

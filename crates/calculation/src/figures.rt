@@ -2,10 +2,12 @@
 ghost use Rattle.std.specs.Prelude.{◌≡◌, ◌≤◌};
 ghost use Rattle.basis.specs.Figure.{Is};
 ghost use Rattle.kinds.specs.Kinds.{enclosure_number, wall_number};
+ghost use Rattle.job.specs.Bounds.{Bounds};
 ghost use Rattle.calculation.specs.Whole.{shape, wind_pressure, wind_moment, figures, rounded_tenths, column_slenderness, slenderness, transom_moment, transom_load, transom_deflection, ledger_moment, ledger_load, ledger_deflection, slip, face, tie_force, figure12};
 
-use crate::constants::{board_of, factor_of, radius_of, shape_unit, stiffness_of, tie_base};
+use crate::constants::{board_of, factor_of, shape_unit, stiffness_of, tie_base, tube_radius};
 use crate::effects::Effects;
+use job::Job;
 use job::bounded::BoundedJob;
 use kinds::{Enclosure, Wall};
 use section5::{CHECKS, Heights};
@@ -13,11 +15,20 @@ use sheet::slenderness::Slenderness;
 
 // The shape factor, 1/100,000.
 // requires: effects_of shows the bound from its job.
-pub fn shape_of(enclosure: Enclosure, wall: Wall, shield: u32) -> u64
+pub fn enclosure_shape(enclosure: Enclosure, wall: Wall, shield: u32) -> u64
     requires { shield ≤ 2000 }
     ensures { Is result (shape (enclosure_number enclosure) (wall_number wall) shield) 312000 }
 {
     shape_unit(enclosure, wall) * u64::from(shield)
+}
+
+// The same of an enclosure's and a wall's number, whatever they are.
+// requires: a caller shows the bound by examining the job.
+pub fn shape_of(enclosure: u32, wall: u32, shield: u32) -> u64
+    requires { shield ≤ 2000 }
+    ensures { Is result (shape enclosure wall shield) 312000 }
+{
+    enclosure_shape(Enclosure::from(enclosure), Wall::from(wall), shield)
 }
 
 // wk, N/m², of height factor, shape and basic wind.
@@ -44,7 +55,7 @@ pub fn wind_moment(w: u64, la: u32, step: u32) -> u64
 }
 
 // A slenderness in tenths, above 250.0 up to a whole number.
-// requires: column_slenderness shows it of an accepted job, formwork of an accepted support.
+// requires: pole_slenderness shows it of an accepted job, formwork of an accepted support.
 #[tactic(auto, using(crate::proofs::Ceil::up, crate::proofs::Slenderness::rounded_tenths_fine, crate::proofs::Slenderness::rounded_tenths_coarse))]
 pub fn rounded_tenths(t: u64) -> Slenderness
     requires { t ≤ 2930 }
@@ -60,12 +71,21 @@ pub fn rounded_tenths(t: u64) -> Slenderness
 
 // Z, in tenths.
 #[tactic(auto, using(crate::proofs::Ceil::up), unfolding(crate::specs::Whole::column_tenths, crate::specs::Whole::column_slenderness))]
-pub fn column_slenderness(j: &BoundedJob) -> Slenderness
+pub fn pole_slenderness(j: &BoundedJob) -> Slenderness
     ensures { result ≡ column_slenderness j.now }
 {
     let step = u64::from(j.step);
-    let tenths = (1155 * factor_of(j) * step).div_ceil(100 * radius_of(j.tube));
+    let tenths = (1155 * factor_of(j) * step).div_ceil(100 * tube_radius(j.tube));
     rounded_tenths(tenths)
+}
+
+// The same of a job as it was keyed in.
+// requires: a caller shows the bounds by examining the job.
+pub fn column_slenderness(j: Job) -> Slenderness
+    requires { Bounds j }
+    ensures { result ≡ column_slenderness j }
+{
+    pole_slenderness(&BoundedJob::read(j))
 }
 
 // The slenderness of check 6, up.
@@ -74,7 +94,7 @@ fn slenderness_of(j: &BoundedJob) -> u64
     ensures { result ≡ slenderness j.now }
 {
     let step = u64::from(j.step);
-    (factor_of(j) * step).div_ceil(radius_of(j.tube))
+    (factor_of(j) * step).div_ceil(tube_radius(j.tube))
 }
 
 pub(crate) fn transom_moment(j: &BoundedJob) -> u64
@@ -168,7 +188,7 @@ fn figure12_of(heights: Heights) -> u64
 }
 
 // The figure of each check.
-pub fn figures_of(j: &BoundedJob, e: Effects, heights: Heights) -> [u64; CHECKS]
+pub fn figures_by_check(j: &BoundedJob, e: Effects, heights: Heights) -> [u64; CHECKS]
     ensures { result ≡ figures j.now e.wk e.n e.nw heights }
 {
     [
@@ -185,4 +205,13 @@ pub fn figures_of(j: &BoundedJob, e: Effects, heights: Heights) -> [u64; CHECKS]
         e.n,
         figure12_of(heights),
     ]
+}
+
+// The same of a job as it was keyed in.
+// requires: a caller shows the bounds by examining the job.
+pub fn figures_of(j: Job, e: Effects, heights: Heights) -> [u64; CHECKS]
+    requires { Bounds j }
+    ensures { result ≡ figures j e.wk e.n e.nw heights }
+{
+    figures_by_check(&BoundedJob::read(j), e, heights)
 }

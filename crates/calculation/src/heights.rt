@@ -104,7 +104,7 @@ fn permitted_of(family: Family, h: u64) -> u64
 // Both heights of a count of heights.
 // requires: judge counts no more heights.
 #[tactic(auto, using(crate::proofs::Stability::heights_at))]
-pub fn heights_of(family: Family, count: u64) -> Heights
+pub fn family_heights(family: Family, count: u64) -> Heights
     requires { count ≤ 6001 }
     ensures { result ≡ heights (family_number family) count }
 {
@@ -113,4 +113,13 @@ pub fn heights_of(family: Family, count: u64) -> Heights
     }
     let h = count - 1;
     Heights::Both(h, permitted_of(family, h))
+}
+
+// The same of a family's number, whatever it is.
+// requires: Pole::height_count counts no more heights.
+pub fn heights_of(family: u32, count: u64) -> Heights
+    requires { count ≤ 6001 }
+    ensures { result ≡ heights family count }
+{
+    family_heights(Family::from(family), count)
 }

@@ -2,11 +2,13 @@
 ghost use Rattle.std.specs.Prelude.{◌≤◌};
 ghost use Rattle.basis.specs.Fraction.{Equals};
 ghost use Rattle.basis.specs.Figure.{Is};
+ghost use Rattle.job.specs.Bounds.{Bounds};
 ghost use Rattle.section5.specs.Section5.{G1};
 ghost use Rattle.calculation.specs.Whole.{deck, fittings, deck_live, deck_load, force, force_wind};
 ghost use Rattle.calculation.specs.Bounded.{IsLoad};
 
 use crate::constants::{board_of, overhang_of, rail_of};
+use job::Job;
 use job::bounded::BoundedJob;
 use std::marker::Model;
 
@@ -69,13 +71,22 @@ pub(crate) fn deck_live(j: &BoundedJob) -> u64
 }
 
 // What a job's pole carries beside the structure.
-pub fn deck_load(j: &BoundedJob) -> Load
+pub fn pole_load(j: &BoundedJob) -> Load
     ensures { IsLoad result (deck_load j.now) 280000000 1110000000 }
 {
     Load {
         dead: fittings_of(j),
         live: deck_live(j),
     }
+}
+
+// The same of a job as it was keyed in.
+// requires: a caller shows the bounds by examining the job.
+pub fn deck_load(j: Job) -> Load
+    requires { Bounds j }
+    ensures { IsLoad result (deck_load j) 280000000 1110000000 }
+{
+    pole_load(&BoundedJob::read(j))
 }
 
 // N of a load that is known whole, as a support's is (5.6.2-1).

@@ -10,8 +10,8 @@ ghost use Rattle.formwork.specs.Answer.{answer};
 
 use basis::Refusal;
 use calculation::checks::{Ground, base_bears, verdict_of};
-use calculation::columns::{Column, bears_of, bends_of, column_of};
-use calculation::constants::radius_of;
+use calculation::columns::{Column, bears_of, bends_of, tube_column};
+use calculation::constants::tube_radius;
 use calculation::effects::Effects;
 use calculation::figures::{rounded_tenths, wind_moment, wind_pressure};
 use calculation::loads::{Load, force_of, force_wind_of};
@@ -45,7 +45,7 @@ fn slenderness_of(s: &BoundedSupport) -> Slenderness
     ensures { result ≡ column_slenderness s.now }
 {
     let length = u64::from(s.step) + 2 * u64::from(s.overhang);
-    rounded_tenths((1000 * length).div_ceil(radius_of(s.tube)))
+    rounded_tenths((1000 * length).div_ceil(tube_radius(s.tube)))
 }
 
 // The row of twelve, the form that the paper requires, from the column and from Mw, N and Nw of the effects; 0 where a check does not apply.
@@ -73,7 +73,7 @@ pub fn judge_accepted_support(sheet: &StandingSheet<'_>, s: &BoundedSupport) -> 
     let wk = pressure_of(s);
     let mw = wind_moment(wk, s.bay, s.step);
     let z = slenderness_of(s);
-    let c = column_of(sheet, s.tube, z);
+    let c = tube_column(sheet, s.tube, z);
     let load = load_of(s);
     let n = force_of(load);
     let nw = force_wind_of(load);

@@ -6,12 +6,12 @@ ghost use Rattle.section5.specs.Section5.{judgement};
 ghost use Rattle.judge.specs.Answer.{answer};
 
 use basis::Refusal;
-use calculation::checks::verdicts_of;
-use calculation::columns::column_of;
+use calculation::checks::verdicts_by_check;
+use calculation::columns::tube_column;
 use calculation::effects::effects_of;
-use calculation::figures::{column_slenderness, figures_of};
-use calculation::heights::{Pole, heights_of};
-use calculation::loads::deck_load;
+use calculation::figures::{figures_by_check, pole_slenderness};
+use calculation::heights::{Pole, family_heights};
+use calculation::loads::pole_load;
 use job::Job;
 use job::bounded::BoundedJob;
 use section5::Judgement;
@@ -22,17 +22,17 @@ pub fn judge_accepted(sheet: &StandingSheet<'_>, j: &BoundedJob) -> Judgement
     ensures { result ≡ judgement j.now sheet.now }
 {
     let e = effects_of(j);
-    let z = column_slenderness(j);
-    let c = column_of(sheet, j.tube, z);
+    let z = pole_slenderness(j);
+    let c = tube_column(sheet, j.tube, z);
     let pole = Pole {
         column: c,
-        load: deck_load(j),
+        load: pole_load(j),
         weight: j.weight,
     };
-    let heights = heights_of(j.family, pole.height_count(e.mw, e.not_due));
+    let heights = family_heights(j.family, pole.height_count(e.mw, e.not_due));
     Judgement {
-        verdicts: verdicts_of(c, j, e, heights),
-        figures: figures_of(j, e, heights),
+        verdicts: verdicts_by_check(c, j, e, heights),
+        figures: figures_by_check(j, e, heights),
         heights,
         wk: e.wk,
         mw: e.mw,

@@ -17,4 +17,4 @@ unfolding effects wk mw
 gathered {j = j} e ef ew em en enw ex = rw (ex, en, enw, N_same j j.height, Nw_same j j.height, em, ew, ef, e)
 
 pub returns : goal.returns
-returns c = gathered c.j.view_is c.shape_of-shape.ensures.is c.wind_pressure-wk.ensures.is c.wind_moment.ensures.is c.pole_force.ensures c.pole_force_wind.ensures c.not_due_of.ensures
+returns c = gathered c.j.view_is c.enclosure_shape-shape.ensures.is c.wind_pressure-wk.ensures.is c.wind_moment.ensures.is c.pole_force.ensures c.pole_force_wind.ensures c.check8_not_due.ensures
