@@ -1,22 +1,22 @@
 -- Laws of reading numbers one by one from the front.
 -- Assumes nothing.
-use Rattle.std.specs.Prelude.{Some, None, Ok, Err}
+use Rattle.std.specs.Prelude.{Some, None, Err}
 use Prim.Native.Nat.{ℕ, suc, ◌+◌, ◌-◌, ◌≤◌, ◌<◌}
 use mathlib.Core.Path.{◌≡◌, ◌∙◌, refl, sym}
-use mathlib.Core.List.{List, ◌∷◌, ◌++◌, append-nil, append_assoc}
+use mathlib.Core.List.{List, [], ◌∷◌, ◌++◌, append-nil, append_assoc}
 use native.Mathlib.Numerals.{add-one}
 use native.Mathlib.Omega.{arith}
 use lib.Dec.{leb}
 use lib.ListN.{length, take, drop, set, replicate, length-set, length-drop, drop_of_length-le}
 use lib.Seq.{drop-cons, drop-drop, take_all, take-suc-set}
 use borrow.Author.Tests.{leb-true, leb-false}
+use borrow.Rule.Slice.PartMut.{put_mid}
 use Rattle.basis.specs.Refusal.{nothing, unless}
-use Rattle.basis.specs.declared.Refusal.{Refusal}
 use Rattle.basis.specs.declared.Refusal.TheVariants.{Damaged, Trailing}
 use Rattle.basis.proofs.Tests.{cases}
 use Rattle.groups.specs.Decode.{decode}
 use Rattle.groups.proofs.Decode.{decode_within}
-use Rattle.groups.specs.Numbers.{extra, damage, values, numbers_in}
+use Rattle.groups.specs.Numbers.{extra, damage, values}
 
 pub extra_at : (s : List ℕ) (at : ℕ) → unless (leb (length s) at) (Trailing at) nothing ≡ extra at (drop at s)
 unfolding extra
@@ -62,27 +62,29 @@ module _ (n : ℕ) (file numbers : List ℕ) (i at : ℕ) (s : SoFar n file numb
         same_values = rw (add-one, take-suc-set numbers i v b, append_assoc) (s.same_values ∙ rw (p, values_next (n - suc i) v k (drop at file) (sym e), d));
       }
 
-  pub so_far_damaged : i < n → None ≡ decode (drop at file) → Err (Damaged at) ≡ numbers_in n file
-  unfolding numbers_in
+  pub so_far_damaged : i < n → None ≡ decode (drop at file) → Err (Damaged at) ≡ damage n 0 file
   so_far_damaged l e =
       let p : n - i ≡ suc (n - suc i) = omega arith in
       rw (s.same_damage, p, damage_here (n - suc i) at (drop at file) (sym e))
 
-  module _ (l : n ≤ i) where
-    all_damage : damage n 0 file ≡ extra at (drop at file)
-    unfolding damage
-    all_damage = let p : n - i ≡ 0 = omega arith in rw p at s.same_damage
+  -- and the rest is filled with 0
+  pub so_far_filled : i < n → None ≡ decode (drop at file) → put_mid i (length numbers - i) numbers (replicate (length numbers - i) 0) ≡ values n file
+  so_far_filled l e =
+      let p : n - i ≡ suc (n - suc i) = omega arith in
+      let b : length (drop i numbers) ≤ length numbers - i = omega (arith, length-drop i numbers) in
+      let d : drop (length numbers - i) (drop i numbers) ≡ [] = drop_of_length-le (drop i numbers) b in
+      rw (d, append-nil, s.long, s.same_values, p, values_here (n - suc i) (drop at file) (sym e))
 
-    pub so_far_all : extra at (drop at file) ≡ nothing → Ok numbers ≡ numbers_in n file
-    unfolding numbers_in values
-    so_far_all z =
-        let p : n - i ≡ 0 = omega arith in
-        let v : values n file ≡ take i numbers = rw (p, append-nil) at s.same_values in
-        rw (all_damage, z, v, take_all i numbers (omega (arith, s.long)))
+  pub so_far_extra : n ≤ i → extra at (drop at file) ≡ damage n 0 file
+  unfolding damage
+  so_far_extra l = let p : n - i ≡ 0 = omega arith in sym (rw p at s.same_damage)
 
-    pub so_far_extra : {r : Refusal} → extra at (drop at file) ≡ Err r → Err r ≡ numbers_in n file
-    unfolding numbers_in
-    so_far_extra z = rw (all_damage, z)
+  pub so_far_all : n ≤ i → numbers ≡ values n file
+  unfolding values
+  so_far_all l =
+      let p : n - i ≡ 0 = omega arith in
+      let v : values n file ≡ take i numbers = rw (p, append-nil) at s.same_values in
+      rw (v, take_all i numbers (omega (arith, s.long)))
 
--- what the reader gives where it ends
-pub ruleset so_far = (so_far_damaged, so_far_all, so_far_extra)
+-- what the reader gives and leaves where it ends
+pub ruleset so_far = (so_far_damaged, so_far_filled, so_far_extra, so_far_all)

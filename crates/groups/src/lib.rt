@@ -7,7 +7,7 @@ ghost use Rattle.basis.specs.Writing.{written_over};
 ghost use Rattle.groups.specs.Encode.{encode, encode_all};
 ghost use Rattle.groups.specs.Decode.{last_group, extend, later_groups, decode};
 ghost use Rattle.groups.specs.LowFirst.{after};
-ghost use Rattle.groups.specs.Numbers.{extra, numbers_in};
+ghost use Rattle.groups.specs.Numbers.{extra, damage, values, numbers_in};
 
 use basis::{Refusal, ensure};
 
@@ -72,19 +72,31 @@ pub fn nothing_after(file: &[u8], at: usize) -> Result<(), Refusal>
     ensure(file.len() <= at, Refusal::Trailing(at as u64))
 }
 
-// The N numbers of a file, which are to be all that it holds, or what is refused of its bytes (6 or 7).
+// Reads as many numbers of a file as a lent row has, which are to be all that it holds: 0 for the first damaged one and all after it; or what is refused of its bytes (6 or 7).
 #[tactic(auto, using(crate::proofs::Decode::number_ends, crate::proofs::Reading::so_far))]
-pub fn read_numbers<const N: usize>(file: &[u8]) -> Result<[u32; N], Refusal>
+pub fn read_numbers(file: &[u8], numbers: &mut [u32]) -> Result<(), Refusal>
+    ensures returned { result ≡ damage (length numbers.old) 0 file.now }
+    ensures buffer { numbers.new ≡ values (length numbers.old) file.now }
+{
+    let mut at = 0;
+    for i in 0..numbers.len() {
+        let Some((value, count)) = number_at(file, at) else {
+            numbers[i..].fill(0);
+            return Err(Refusal::Damaged(at as u64));
+        };
+        numbers[i] = value;
+        at += count;
+    }
+    nothing_after(file, at)
+}
+
+// The N numbers of a file, which are to be all that it holds, or what is refused of its bytes (6 or 7).
+#[tactic(auto, unfolding(crate::specs::Numbers::numbers_in))]
+pub fn numbers_in<const N: usize>(file: &[u8]) -> Result<[u32; N], Refusal>
     ensures { result ≡ numbers_in N file.now }
 {
     let mut numbers = [0; N];
-    let mut at = 0;
-    for number in &mut numbers {
-        let (value, count) = number_at(file, at).ok_or(Refusal::Damaged(at as u64))?;
-        *number = value;
-        at += count;
-    }
-    nothing_after(file, at)?;
+    read_numbers(file, &mut numbers)?;
     Ok(numbers)
 }
 

@@ -52,13 +52,15 @@ fn marks_support(file: &[u8]) -> bool
 
 // The job of a file of N numbers: R has them by name, and is read as S, or refused.
 // requires: a scaffold has 25, a support 13.
+#[tactic(auto, unfolding(groups::specs::Numbers::numbers_in))]
 fn read_as<R: From<[u32; N]>, S: TryFrom<R, Error = Refusal>, const N: usize>(
     file: &[u8],
 ) -> Result<S, Refusal>
     requires { N ≤ 25 }
     ensures { MatchResult (numbers_in N file.now) (λ ns. (raw : R) × R.from_gives ns raw × S.try_from_gives raw result) (λ refusal. result ≡ Err refusal) }
 {
-    let numbers = read_numbers::<N>(file)?;
+    let mut numbers = [0; N];
+    read_numbers(file, &mut numbers)?;
     S::try_from(R::from(numbers))
 }
 

@@ -2,7 +2,7 @@
 #![tactic(auto)]
 
 use basis::Refusal;
-use groups::read_numbers;
+use groups::numbers_in;
 use job::Job;
 use jobfile::{JOB_NUMBERS, SUPPORT_NUMBERS};
 use std::io::Read;
@@ -68,9 +68,9 @@ fn writes_back(j: Unexamined, file: &[u8]) -> bool {
 // The job of a file's numbers, whatever of them is out of range; refused where the bytes do not stand.
 fn numbers_of(file: &[u8]) -> Result<Unexamined, Refused> {
     let found = if file.first() == Some(&3) {
-        read_numbers::<SUPPORT_NUMBERS>(file).map(|n| Unexamined::Support(Support::from(n)))
+        numbers_in::<SUPPORT_NUMBERS>(file).map(|n| Unexamined::Support(Support::from(n)))
     } else {
-        read_numbers::<JOB_NUMBERS>(file).map(|n| Unexamined::Scaffold(Job::from(n)))
+        numbers_in::<JOB_NUMBERS>(file).map(|n| Unexamined::Scaffold(Job::from(n)))
     };
     found.map_err(refused)
 }

@@ -1,6 +1,7 @@
--- The first numbers are read, and what is left has the whole's answer. Assumes nothing.
+-- The first i numbers are read, and what is left has the whole's answer. Assumes nothing.
+use lib.ListN.{length}
 use Rattle.groups.proofs.Reading.{SoFar}
 use Rattle.groups.proofs.read_numbers.Given as goal
 
-abbrev pub invariant-loop-number : goal.invariant-loop-number
-invariant-loop-number g l = SoFar g.row.N l.file l.number-items l.number-index l.at
+abbrev pub invariant-loop-i : goal.invariant-loop-i
+invariant-loop-i l = SoFar (length l.initial.numbers) l.file l.numbers l.i l.at
