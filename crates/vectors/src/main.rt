@@ -1,7 +1,8 @@
 // Judges the packed vectors of data/ and compares each part of every answer with the expected one.
 #![tactic(auto)]
 
-ghost use Rattle.std.specs.Prelude.{◌^◌, ◌<◌, ◌≤◌};
+ghost use Rattle.std.specs.Prelude.{◌≡◌, ◌^◌, ◌<◌, ◌≤◌, IfOk};
+ghost use Rattle.vectors.specs.declared.Outcome.TheVariants.{Cut};
 
 use basis::Refusal;
 use job::Job;
@@ -109,7 +110,9 @@ fn compare<R: Print>(
     found: &[u64],
     record: &[u8],
     from: usize,
-) -> io::Result<Outcome> {
+) -> io::Result<Outcome>
+    ensures { IfOk result (λ outcome. outcome ≡ Cut → ⊥) }
+{
     let mut outcome = Outcome::Agrees;
     let (words, _) = record.get(from..).unwrap_or(&[]).as_chunks();
     for (k, (found, word)) in found.iter().zip(words).enumerate() {
