@@ -26,7 +26,9 @@ fn read_some<F: Read>(from: &mut F, out: &mut [u8]) -> io::Result<usize>
 }
 
 // The first bytes of a file, read until the buffer is full or the file ends or cannot be read.
-fn first_bytes<'a, F: Read>(from: &mut F, out: &'a mut [u8]) -> &'a [u8] {
+fn first_bytes<'a, F: Read>(from: &mut F, out: &'a mut [u8]) -> &'a [u8]
+    ensures { length result.now ≤ length out.old }
+{
     let mut at = 0;
     // It ends with what is read, which no range says.
     while at < out.len() {
@@ -62,7 +64,9 @@ struct Sheet<'a> {
 }
 
 // Reads column.dat, its first bytes into a buffer.
-fn read_sheet<'a, R: Files>(rt: &R, bytes: &'a mut [u8]) -> io::Result<Sheet<'a>> {
+fn read_sheet<'a, R: Files>(rt: &R, bytes: &'a mut [u8]) -> io::Result<Sheet<'a>>
+    ensures { IfOk result (λ sheet. length sheet.first.now ≤ length bytes.old) }
+{
     let mut file = match fs::open(rt, "column.dat") {
         Err(e) if e.kind() == ErrorKind::NotFound => return Ok(Sheet::default()),
         file => file?,
