@@ -75,7 +75,7 @@ pub fn nothing_after(file: &[u8], at: usize) -> Result<(), Refusal>
 // Reads as many numbers of a file as a lent row has, which are to be all that it holds: 0 for the first damaged one and all after it; or what is refused of its bytes (6 or 7).
 // Compiled into its callers, which know how many numbers their row has: called, it takes a reader of jobs a tenth longer.
 #[inline(always)]
-#[tactic(auto, using(crate::proofs::Decode::number_ends, crate::proofs::Reading::so_far))]
+#[tactic(auto, using(crate::proofs::Decode::number_ends, crate::proofs::Reading::so_far_read))]
 pub fn read_numbers(file: &[u8], numbers: &mut [u32]) -> Result<(), Refusal>
     ensures returned { result ≡ damage (length numbers.old) 0 file.now }
     ensures buffer { numbers.new ≡ values (length numbers.old) file.now }
